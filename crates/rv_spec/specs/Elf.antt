@@ -1,0 +1,122 @@
+-- The image of an ELF executable: System V ABI, gABI chapters 4 (ELF header) and 5 (program header), for 32-bit RISC-V.
+use Rattle.std.specs.Prelude.{◌≡◌, ℕ, ◌+◌, ◌-◌, ◌*◌, ◌%◌, ◌^◌, ◌<◌, ◌≤◌, min, max, Bool, false, not, ◌&&◌, ◌||◌, List, [], ◌∷◌, ◌++◌, length, take, drop, map, filter, replicate, Option, slice_index, nat_lt, nat_eq, ◌==◌}
+use Rattle.std.specs.List.{list_any, position_from, range_with_len, starts_with, flat_map, AllByRecursion}
+use Rattle.std.specs.Int.{w16, w32, to_le_bytes}
+use Rattle.rv_spec.specs.Words.{u16_at, u32_at, Block, block_byte}
+
+-- what a program header says of a segment: p_type, p_offset, p_vaddr, p_filesz, p_memsz
+pub record Segment : Type 0 where
+  pub kind : ℕ
+  pub offset : ℕ
+  pub address : ℕ
+  pub file_size : ℕ
+  pub memory_size : ℕ
+
+abbrev pub header_at : List ℕ → ℕ → Segment
+header_at file at = record {
+  kind = u32_at file at;
+  offset = u32_at file (at + 4);
+  address = u32_at file (at + 8);
+  file_size = u32_at file (at + 16);
+  memory_size = u32_at file (at + 20);
+}
+
+-- e_phoff and e_phnum
+abbrev pub headers_at : List ℕ → ℕ
+headers_at file = u32_at file 28
+
+abbrev pub header_count : List ℕ → ℕ
+header_count file = u16_at file 44
+
+-- the program headers in order, and those of type PT_LOAD
+unfoldable pub headers : List ℕ → List Segment
+headers file = map (λ i. header_at file (headers_at file + 32 * i)) (range_with_len 0 (header_count file))
+
+unfoldable pub load_segments : List ℕ → List Segment
+load_segments file = filter (λ s. s.kind == 1) (headers file)
+
+-- some address lies in both memory ranges
+abbrev pub overlaps : Segment → Segment → Bool
+overlaps s t = nat_lt (max s.address t.address) (min (s.address + s.memory_size) (t.address + t.memory_size))
+
+abbrev pub some_overlap : List Segment → Bool
+some_overlap [] = false
+some_overlap (s ∷ ss) = list_any (overlaps s) ss || some_overlap ss
+
+-- the faults in order of their numbers, from 1 on, as tests of a file
+abbrev pub fault_tests : List ℕ → List Bool
+fault_tests file =
+    nat_lt (length file) 52
+    ∷ not (starts_with nat_eq file (0x7F ∷ 0x45 ∷ 0x4C ∷ 0x46 ∷ []))
+    ∷ not (slice_index file 4 == 1)
+    ∷ not (slice_index file 5 == 1)
+    ∷ not (slice_index file 6 == 1 && u32_at file 20 == 1)
+    ∷ not (u16_at file 16 == 2)
+    ∷ not (u16_at file 18 == 243)
+    ∷ not (u16_at file 42 == 32)
+    ∷ nat_lt (length file) (headers_at file + 32 * header_count file)
+    ∷ list_any (λ s. s.kind == 3) (headers file)
+    ∷ list_any (λ s. nat_lt (length file) (s.offset + s.file_size)) (load_segments file)
+    ∷ list_any (λ s. nat_lt s.memory_size s.file_size) (load_segments file)
+    ∷ list_any (λ s. nat_lt (2 ^ 32) (s.address + s.memory_size)) (load_segments file)
+    ∷ nat_lt 64 (length (load_segments file))
+    ∷ some_overlap (load_segments file)
+    ∷ not (u32_at file 24 % 4 == 0)
+    ∷ []
+
+-- the number of the first fault, from 1 on
+unfoldable pub first_fault : List ℕ → Option ℕ
+first_fault file = position_from (λ b. b) 1 (fault_tests file)
+
+-- A program as it is loaded. The version says which instructions it may use: 1 for RV32IM, 2 for RV32IMA.
+pub record Image : Type 0 where
+  pub version : ℕ
+  pub entry : ℕ
+  pub blocks : List Block
+
+-- the bytes that a segment takes from the file
+abbrev pub block_of : List ℕ → Segment → Block
+block_of file s = record { address = s.address; bytes = take s.file_size (drop s.offset file) }
+
+-- what a file without a fault loads
+abbrev pub image : ℕ → List ℕ → Image
+image version file = record { version = version; entry = u32_at file 24; blocks = map (block_of file) (load_segments file) }
+
+-- the byte of an image at an address
+abbrev pub image_byte : Image → ℕ → ℕ
+image_byte i a = block_byte i.blocks a
+
+-- a is one of the addresses at which the segment takes a byte of the file
+abbrev pub TakesByteAt : Segment → ℕ → Type 0
+TakesByteAt s a = (s.address ≤ a) × (a < s.address + s.file_size)
+
+-- What an image is, address by address: the byte that some segment takes from the file there, and 0 where none does.
+pub record IsImage (file : List ℕ) (i : Image) : Type 0 where
+  pub entry : i.entry ≡ u32_at file 24
+  pub taken : (a : ℕ) → AllByRecursion (λ s. TakesByteAt s a → image_byte i a ≡ slice_index file (s.offset + (a - s.address))) (load_segments file)
+  pub elsewhere : (a : ℕ) → AllByRecursion (λ s. ¬ (TakesByteAt s a)) (load_segments file) → image_byte i a ≡ 0
+
+-- ---- the writer
+
+-- what becomes a segment: its bytes from an address on, and its size in memory
+pub record Part : Type 0 where
+  pub address : ℕ
+  pub bytes : List ℕ
+  pub size : ℕ
+
+-- program headers, where the first segment's bytes begin at this offset of the file
+abbrev pub part_headers : ℕ → List Part → List ℕ
+part_headers offset [] = []
+part_headers offset (p ∷ ps) =
+    to_le_bytes w32 1 ++ to_le_bytes w32 offset ++ to_le_bytes w32 p.address ++ to_le_bytes w32 p.address
+    ++ to_le_bytes w32 (length p.bytes) ++ to_le_bytes w32 p.size ++ to_le_bytes w32 7 ++ to_le_bytes w32 4
+    ++ part_headers (offset + length p.bytes) ps
+
+-- an executable: the ELF header, a program header for each part, and the parts' bytes one after another
+unfoldable pub elf_file : ℕ → List Part → List ℕ
+elf_file entry ps =
+    (0x7F ∷ 0x45 ∷ 0x4C ∷ 0x46 ∷ 1 ∷ 1 ∷ 1 ∷ []) ++ replicate 9 0
+    ++ to_le_bytes w16 2 ++ to_le_bytes w16 243 ++ to_le_bytes w32 1 ++ to_le_bytes w32 entry
+    ++ to_le_bytes w32 52 ++ to_le_bytes w32 0 ++ to_le_bytes w32 0
+    ++ to_le_bytes w16 52 ++ to_le_bytes w16 32 ++ to_le_bytes w16 (length ps) ++ replicate 6 0
+    ++ part_headers (52 + 32 * length ps) ps ++ flat_map (λ p. p.bytes) ps
