@@ -1,5 +1,4 @@
 -- What unfolds where an example is to compute: a proof names `computes` alone.
-use Rattle.std.specs.Fmt.{digits}
 use Rattle.sha2.specs.Sha512.{sha512, digest_bytes, hash_after, compress, rounds, schedule, first_words}
 use Rattle.rv_spec.specs.Words.{block_byte, byte, store_bytes}
 use Rattle.rv_spec.specs.Elf.{headers, load_segments, first_fault, elf_file}
@@ -18,8 +17,7 @@ use Rattle.rv_spec.specs.RowRules.{row_checks, place_after}
 use Rattle.rv_spec.specs.Reading.{read_row, read_rows, read_shard, read_shards, read_entries, read_file}
 use Rattle.rv_spec.specs.Start.{steps_from}
 use Rattle.rv_spec.specs.Board.{permitted, board_after, is_done}
-use Rattle.rv_spec.specs.Outcome.{command, ends_within, outcome}
 
 unfoldable pub computes : Unit {0}
-unfolding sha512 digest_bytes hash_after compress rounds schedule first_words block_byte byte store_bytes headers load_segments first_fault elf_file decode rv32im_table decode_atomic rv32a_table decode_any compute taken amo_result step execute execute_atomic environment_call load_value store_value run value touches uses atomic_uses step_uses history last_use table_of table digest_lane sha_lanes count reads writes file_bytes header_bytes head_bytes access_bytes row_bytes shard_bytes entry_bytes table_bytes expected expected_instr expected_atomic splice extract expected_call row_checks place_after read_row read_rows read_shard read_shards read_entries read_file steps_from permitted board_after is_done command ends_within outcome digits
+unfolding sha512 digest_bytes hash_after compress rounds schedule first_words block_byte byte store_bytes headers load_segments first_fault elf_file decode rv32im_table decode_atomic rv32a_table decode_any compute taken amo_result step execute execute_atomic environment_call load_value store_value run value touches uses atomic_uses step_uses history last_use table_of table digest_lane sha_lanes count reads writes file_bytes header_bytes head_bytes access_bytes row_bytes shard_bytes entry_bytes table_bytes expected expected_instr expected_atomic splice extract expected_call row_checks place_after read_row read_rows read_shard read_shards read_entries read_file steps_from permitted board_after is_done
 computes = tt

@@ -1,11 +1,10 @@
 -- The record of the first worked program, and verdicts on it and on changed files.
-use Rattle.std.proofs.Common.{◌≡◌, ℕ, List, [], ◌∷◌, ◌++◌, length, take, set, codes, decimal, Some, None, refl}
+use Rattle.std.proofs.Common.{◌≡◌, ℕ, List, [], ◌∷◌, ◌++◌, length, take, set, Some, None, refl}
 use Rattle.rv_base.specs.declared.record.Verdict.TheVariants.{Accept, Refuse}
 use Rattle.rv_spec.specs.Elf.{image, first_fault, elf_file}
 use Rattle.rv_spec.specs.Digest.{sha_lanes, tiny_lanes}
 use Rattle.rv_spec.specs.Record.{record_file}
 use Rattle.rv_spec.specs.Verdict.{verdict}
-use Rattle.rv_spec.specs.Outcome.{outcome, made_line}
 use Rattle.rv_spec.specs.Start.{shard_start}
 use Rattle.rv_spec.proofs.Computes.{computes}
 
@@ -86,18 +85,6 @@ forged = set (set (set (set tiny_file 363 43) 375 43) 153 43) 691 43
 forged_accepted : verdict tiny_lanes elf [] forged ≡ Accept 3 1 (record { kind = 0; code = 43 })
 unfolding computes
 forged_accepted = refl
-
-made : (outcome sha_lanes (codes "make" ∷ codes "p" ∷ codes "i" ∷ codes "r" ∷ codes "1" ∷ codes "3" ∷ codes "3" ∷ []) ((codes "p", elf) ∷ [])).text ≡ made_line 3 1 (record { kind = 0; code = 42 }) 719
-unfolding computes
-made = refl
-
-over_budget : outcome sha_lanes (codes "make" ∷ codes "p" ∷ codes "i" ∷ codes "r" ∷ codes "1" ∷ codes "3" ∷ codes "2" ∷ []) ((codes "p", elf) ∷ []) ≡ record { status = 4; text = codes "fault budget " ++ decimal 2 ++ 10 ∷ []; files = (codes "p", elf) ∷ [] }
-unfolding computes
-over_budget = refl
-
-misspelled : (outcome sha_lanes (codes "make" ∷ codes "p" ∷ codes "i" ∷ codes "r" ∷ codes "1" ∷ codes "01" ∷ codes "2" ∷ []) []).status ≡ 2
-unfolding computes
-misspelled = refl
 
 third_start : shard_start (image 1 elf) [] 1 2 ≡ record { index = 2; rows = 1; step = 2; place = record { pc = 0x10008; input = 0; output = 0 }; cells = record { cell = 0x4002; value = 0x73; time = 0 } ∷ record { cell = 0x4000000A; value = 42; time = 7 } ∷ record { cell = 0x40000011; value = 93; time = 23 } ∷ [] }
 unfolding computes

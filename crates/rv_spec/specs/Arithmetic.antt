@@ -1,4 +1,4 @@
--- Operations on registers: RISC-V Unprivileged ISA, "Integer Computational Instructions", "Conditional Branches", the M extension.
+-- Operations on registers: RISC-V Unprivileged ISA, RV32I "Integer Computational Instructions" and "Conditional Branches", the M extension with its table of division by zero and overflow, and the A extension.
 use Rattle.std.specs.Prelude.{ℕ, ◌+◌, ◌-◌, ◌*◌, ◌/◌, ◌%◌, ◌^◌, ℤ, pos, ◌*ℤ◌, Bool, not, min, max, nat_lt, ◌==◌, if◌then◌else◌, bit_and, bit_or, bit_xor, int_lt, int_div, int_rem}
 use Rattle.std.specs.Int.{w32, w64, cast_signed, cast_unsigned, from_bool, int_shr, int_min, int_max}
 use Rattle.rv_base.specs.declared.instr.Op.{Op}

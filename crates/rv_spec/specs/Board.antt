@@ -1,4 +1,4 @@
--- The board from which passes draw numbers, each once, and the journal of those that are done.
+-- The board (this project's own) from which passes draw numbers, each once, and the journal of those that are done.
 use Rattle.std.specs.Prelude.{◌≡◌, ◌≤◌, ℕ, zero, suc, ◌+◌, Bool, not, ◌&&◌, ◌||◌, List, [], ◌∷◌, ◌++◌, length, replicate, IsTrue, nat_lt, nat_le, ◌==◌}
 use Rattle.std.specs.List.{list_all, list_any}
 

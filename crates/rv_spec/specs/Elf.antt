@@ -1,4 +1,4 @@
--- The image of an ELF executable: System V ABI, gABI chapters 4 (ELF header) and 5 (program header), for 32-bit RISC-V.
+-- The image of an ELF executable: System V gABI, chapters 4 (ELF header) and 5 (program header, PT_LOAD), for 32 bits; e_machine 243 is RISC-V's in the RISC-V ELF psABI. The faults, their numbers and the limit of 64 segments are this project's own.
 use Rattle.std.specs.Prelude.{◌≡◌, ℕ, ◌+◌, ◌-◌, ◌*◌, ◌%◌, ◌^◌, ◌<◌, ◌≤◌, min, max, Bool, false, not, ◌&&◌, ◌||◌, List, [], ◌∷◌, ◌++◌, length, take, drop, map, filter, replicate, Option, slice_index, nat_lt, nat_eq, ◌==◌}
 use Rattle.std.specs.List.{list_any, position_from, range_with_len, starts_with, flat_map, AllByRecursion}
 use Rattle.std.specs.Int.{w16, w32, to_le_bytes}

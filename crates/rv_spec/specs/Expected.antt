@@ -1,4 +1,4 @@
--- The step that a row has to make, by the row's own old values: it looks at no other row and at no memory.
+-- The step that a row has to make, by the row's own old values: the instructions of the RISC-V Unprivileged ISA as Step has them, but without a memory and without registers.
 use Rattle.std.specs.Prelude.{ℕ, ◌+◌, ◌-◌, ◌/◌, ◌%◌, ◌^◌, min, ◌||◌, List, [], ◌∷◌, ◌++◌, length, take, drop, Option, Some, None, ◌==◌, if◌then◌else◌}
 use Rattle.std.specs.Int.{w32, cast_unsigned, from_le_bytes, to_le_bytes}
 use Rattle.rv_base.specs.declared.record.End.{End}

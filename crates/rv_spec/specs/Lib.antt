@@ -19,6 +19,5 @@ pub mod Reading
 pub mod Verdict
 pub mod Start
 pub mod Board
-pub mod Outcome
 pub mod Chain
 pub mod Agreement

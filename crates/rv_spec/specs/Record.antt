@@ -1,4 +1,4 @@
--- The record file of a run: its parts, their bytes, and the record that is due.
+-- The record file of a run (this project's own): its parts, their bytes, and the record that is due. The hashes are SHA-512 of FIPS 180-4.
 use Rattle.std.specs.Prelude.{◌≡◌, ℕ, ◌+◌, ◌-◌, ◌*◌, ◌≤◌, min, List, [], ◌∷◌, ◌++◌, length, map, None}
 use Rattle.std.specs.List.{flat_map, range_with_len}
 use Rattle.std.specs.Int.{w32, w64, to_le_bytes, div_ceil, IsInRange}

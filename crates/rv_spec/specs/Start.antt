@@ -1,4 +1,4 @@
--- What is known before a shard is replayed, and what its replay gives.
+-- What is known before a shard is replayed, and what its replay gives (this project's own).
 use Rattle.std.specs.Prelude.{◌≡◌, ◌<◌, ℕ, zero, suc, ◌+◌, ◌*◌, List, map, Option, Some, None}
 use Rattle.std.specs.List.{flat_map}
 use Rattle.std.specs.Int.{div_ceil, IsInRange}

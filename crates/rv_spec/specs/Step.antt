@@ -1,4 +1,4 @@
--- The machine and one step of it: RISC-V Unprivileged ISA, RV32I, "M" and "A" (one hart), and calls of the environment by Linux numbers.
+-- The machine and one step of it: RISC-V Unprivileged ISA, RV32I, "M" and "A" on one hart. The numbers of environment calls (63 read, 64 write, 93 exit, 94 exit_group) and of errors (9 EBADF, 38 ENOSYS) are those of Linux; what the calls do is this project's own.
 use Rattle.std.specs.Prelude.{ℕ, ◌+◌, ◌-◌, ◌%◌, ◌^◌, min, ◌||◌, List, [], ◌∷◌, ◌++◌, length, take, drop, replicate, slice_index, slice_set, Option, Some, None, ◌==◌, if◌then◌else◌}
 use Rattle.std.specs.Int.{w16, w32, cast_unsigned, from_le_bytes, to_le_bytes}
 use Rattle.rv_base.specs.declared.record.End.{End}
@@ -54,7 +54,7 @@ with_register r v s = record s { registers = if r == 0 then s.registers else sli
 abbrev pub with_memory : Memory → State → State
 with_memory m s = record s { memory = m }
 
--- the kinds of an end: exit, an illegal word, EBREAK, a misaligned jump, load and store
+-- the kinds of an end: 0 exit, 1 an illegal word, 2 EBREAK, 3 a misaligned jump, 4 a misaligned load, 5 a misaligned store
 abbrev pub exits : ℕ → Turn
 exits code = Ends (record { kind = 0; code = code })
 
@@ -96,11 +96,11 @@ store_value k m a v = store_bytes m a (take (store_width k) (to_le_bytes w32 v))
 abbrev pub store_word : Memory → ℕ → ℕ → Memory
 store_word m a v = store_bytes m a (to_le_bytes w32 v)
 
--- how many bytes a call moves: as many as it asks for, but no more than are left in the word of the buffer
+-- how many bytes a call moves: as many as it asks for, but none past the word in which its buffer begins
 abbrev pub within_word : ℕ → ℕ → ℕ
 within_word buffer len = min len (4 - buffer % 4)
 
--- a call of the environment returns its answer in x10
+-- an environment call returns its value in a0, which is x10 (RISC-V psABI)
 abbrev pub return_in_a0 : ℕ → State → Turn
 return_in_a0 v s = advance (with_register 10 v s)
 

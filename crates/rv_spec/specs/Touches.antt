@@ -1,4 +1,4 @@
--- The cells that a step uses, in its slots: 1 is the fetch, 2 to 5 are register reads, 6 is the memory word, 7 is the register write, 8 is the reservation.
+-- The cells that a step uses, in its slots (this project's own): 1 is the fetch, 2 to 5 are register reads, 6 is the memory word, 7 is the register write, 8 is the reservation.
 use Rattle.std.specs.Prelude.{ℕ, ◌+◌, ◌-◌, ◌/◌, ◌%◌, min, ◌||◌, List, [], ◌∷◌, ◌++◌, length, map, Option, Some, None, nat_le, ◌==◌, if◌then◌else◌}
 use Rattle.rv_base.specs.declared.instr.Instr.{Instr}
 use Rattle.rv_base.specs.declared.instr.Instr.TheVariants.{Lui, Auipc, Jal, Jalr, Branch, Load, Store, OpImm, Op, Fence, Ecall, Ebreak}

@@ -1,4 +1,4 @@
--- The trace of a run: a row for each step, and the table of what its cells hold at the end.
+-- The trace of a run: a row for each step, with the time of the use before each access, and the table of what its cells hold at the end. After Blum et al. 1991: an access knows when its cell was used last.
 use Rattle.std.specs.Prelude.{ℕ, zero, suc, max, ◌&&◌, List, [], ◌∷◌, ◌++◌, map, filter, fold, find, option_map, unwrap_or, nat_lt, ◌==◌, if◌then◌else◌}
 use Rattle.std.specs.List.{range_with_len}
 use Rattle.rv_base.specs.declared.record.Access.{Access}

@@ -1,4 +1,4 @@
--- Bytes and words, the least significant byte first, and memory as a finite map from addresses to bytes.
+-- Bytes, words and memory. RISC-V Unprivileged ISA, "Memory" and RV32I "Load and Store Instructions": addresses are of bytes, 2 ^ 32 of them, and words lie the least significant byte first.
 use Rattle.std.specs.Prelude.{ℕ, zero, suc, ◌+◌, ◌-◌, ◌*◌, ◌/◌, ◌%◌, ◌^◌, ℤ, pos, negsuc, List, [], ◌∷◌, length, unwrap_or, slice_index, nat_lt, nat_le, ◌&&◌, if◌then◌else◌, ◌<◌}
 use Rattle.std.specs.List.{AllByRecursion}
 use Rattle.std.specs.Int.{w32, from_le_bytes, cast_unsigned}
@@ -15,7 +15,7 @@ bits_of low k n = n / 2 ^ low % 2 ^ k
 abbrev pub sign_extend : ℕ → ℕ → ℤ
 sign_extend k n = if nat_lt n (2 ^ (k - 1)) then pos n else negsuc (2 ^ k - 1 - n)
 
--- a + z modulo 2 ^ 32
+-- an address or a register with a signed offset, modulo 2 ^ 32
 abbrev pub plus : ℕ → ℤ → ℕ
 plus a z = (a + cast_unsigned w32 z) % 2 ^ 32
 
