@@ -1,5 +1,8 @@
-//! Instructions of RV32I, M and A as plain data.
+//! Instructions as plain data: RISC-V Unprivileged ISA, RV32I and the extensions M and A.
+//!
+//! Registers are 0 to 31. An immediate or an offset is the value that the instruction adds, sign extended; offsets are in bytes.
 
+/// An operation on two registers, or on a register and an immediate.
 #[derive(Clone, Copy, PartialEq, Eq, Debug)]
 pub enum Op {
     Add,
@@ -22,6 +25,7 @@ pub enum Op {
     Remu,
 }
 
+/// The condition of a branch. Lt and Ge are signed, Ltu and Geu unsigned.
 #[derive(Clone, Copy, PartialEq, Eq, Debug)]
 pub enum Cond {
     Eq,
@@ -32,6 +36,7 @@ pub enum Cond {
     Geu,
 }
 
+/// What a load moves: a byte, a half word or a word. B and H extend the sign, Bu and Hu extend with zeros.
 #[derive(Clone, Copy, PartialEq, Eq, Debug)]
 pub enum LoadKind {
     B,
@@ -41,6 +46,7 @@ pub enum LoadKind {
     Hu,
 }
 
+/// What a store moves: the low byte, the low half word or the whole of a register.
 #[derive(Clone, Copy, PartialEq, Eq, Debug)]
 pub enum StoreKind {
     B,
@@ -48,7 +54,7 @@ pub enum StoreKind {
     W,
 }
 
-/// An instruction of RV32I or M.
+/// An instruction of RV32I or M. The immediates of Lui and Auipc have their low 12 bits 0. A Fence keeps the fields that it ignores.
 #[derive(Clone, Copy, PartialEq, Eq, Debug)]
 pub enum Instr {
     Lui {
@@ -107,6 +113,7 @@ pub enum Instr {
     Ebreak,
 }
 
+/// LR.W, SC.W and the atomic memory operations.
 #[derive(Clone, Copy, PartialEq, Eq, Debug)]
 pub enum AtomicOp {
     Lr,
@@ -122,7 +129,7 @@ pub enum AtomicOp {
     Maxu,
 }
 
-/// An instruction of extension A. The flags are aq and rl.
+/// An instruction of extension A. The flags are aq (2) and rl (1); rs2 is 0 for Lr.
 #[derive(Clone, Copy, PartialEq, Eq, Debug)]
 pub struct Atomic {
     pub op: AtomicOp,

@@ -5,6 +5,8 @@ mod bytes;
 mod fields;
 mod instr;
 mod record;
+#[cfg(test)]
+mod tests;
 
 pub use bytes::{Bytes, Text};
 pub use fields::{get16, get32, get64, set16, set32, set64, time_of};

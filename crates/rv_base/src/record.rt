@@ -1,6 +1,9 @@
 //! What a record file holds, as plain data.
 
-/// One value of a cell at a time, as memory checking counts it.
+/// A value that a cell had at a time: what offline memory checking (Blum et al. 1991) counts.
+///
+/// A cell below 2^30 is that word of memory, 2^30 + r is register r (1 to 31), and 2^30 + 32 is the reservation of LR.W.
+/// Slot j of step s has the time 16s + j; time 0 is before the run. Tuples are ordered by cell, value and time.
 #[derive(Clone, Copy, PartialEq, Eq, PartialOrd, Ord, Debug)]
 pub struct Tuple {
     pub cell: u32,
@@ -8,7 +11,8 @@ pub struct Tuple {
     pub time: u64,
 }
 
-/// One access of a row: what it read, when that was written, and what it wrote.
+/// One access of a row: its slot (1 to 8), its cell, the value and the time that it reads, and the value that it writes.
+/// `prev` is the time of the use of the cell before this one, or 0.
 #[derive(Clone, Copy, PartialEq, Eq, Default, Debug)]
 pub struct Access {
     pub slot: u8,
@@ -18,7 +22,7 @@ pub struct Access {
     pub new: u32,
 }
 
-/// One access that a step is expected to make.
+/// One access that a step is expected to make: its slot, its cell and the value that it writes.
 #[derive(Clone, Copy, PartialEq, Eq, Default, Debug)]
 pub struct Touch {
     pub slot: u8,
@@ -26,7 +30,7 @@ pub struct Touch {
     pub new: u32,
 }
 
-/// The old value in each slot of a row, and 0 where the row has no such slot.
+/// The old value in each slot of a row, 0 where the row has no such slot.
 #[derive(Clone, Copy, PartialEq, Eq, Debug)]
 pub struct Seen {
     pub s1: u32,
@@ -39,14 +43,15 @@ pub struct Seen {
     pub s8: u32,
 }
 
-/// How a run ended.
+/// How a run ended. The kind is 0 for an exit, 1 for an illegal word, 2 for EBREAK, and 3, 4 and 5 for a misaligned jump, load
+/// and store. The code is the exit code, and 0 unless the kind is 0.
 #[derive(Clone, Copy, PartialEq, Eq, Debug)]
 pub struct End {
     pub kind: u8,
     pub code: u32,
 }
 
-/// Where a run stands before a step.
+/// Where a run stands before a step: the address of its instruction, and how many bytes of input were read and of output put.
 #[derive(Clone, Copy, PartialEq, Eq, Debug)]
 pub struct Place {
     pub pc: u32,
@@ -54,7 +59,7 @@ pub struct Place {
     pub output: u64,
 }
 
-/// The last value and time of a cell.
+/// A cell with the value and the time of its last use.
 #[derive(Clone, Copy, PartialEq, Eq, Debug)]
 pub struct TableEntry {
     pub cell: u32,
@@ -62,7 +67,7 @@ pub struct TableEntry {
     pub time: u64,
 }
 
-/// The first broken check of a record file.
+/// The first broken check of a record file: shard and row, counted from 0, and the number of the rule, 1 to 27.
 #[derive(Clone, Copy, PartialEq, Eq, Debug)]
 pub struct Refusal {
     pub shard: u32,
@@ -74,14 +79,15 @@ pub struct Refusal {
 #[derive(Clone, Copy, PartialEq, Eq, Debug)]
 pub struct NoMemory;
 
-/// What a checker answers on a record file.
+/// What a checker answers on a record file: the steps and shards of an accepted one and how its run ended, or the first broken check.
 #[derive(Clone, Copy, PartialEq, Eq, Debug)]
 pub enum Verdict {
     Accept { steps: u64, shards: u32, end: End },
     Refuse(Refusal),
 }
 
-/// The fields at the front of a record file.
+/// The fields at the front of a record file: the version (1 or 2), the SHA-512 of the ELF file and of the input, the rows of each
+/// shard but the last, the steps, the shards, the end, the input bytes consumed and the output bytes.
 #[derive(Clone, Copy, PartialEq, Eq, Debug)]
 pub struct Header {
     pub version: u8,
@@ -95,7 +101,7 @@ pub struct Header {
     pub length: u64,
 }
 
-/// The fields at the front of a shard.
+/// The fields at the front of a shard: its index, its rows, the place before its first row, and the bytes of its rows.
 #[derive(Clone, Copy, PartialEq, Eq, Debug)]
 pub struct ShardHead {
     pub index: u32,
