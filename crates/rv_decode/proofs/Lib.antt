@@ -1,0 +1,5 @@
+pub mod WordFields
+pub mod TableRows
+pub mod FormatWords
+pub mod AtomicRows
+pub mod OneRow

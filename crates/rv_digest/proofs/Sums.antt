@@ -1,0 +1,19 @@
+-- Sums of lanes, modulo 2 ^ 64.
+use Rattle.std.proofs.Common.{◌≡◌, ℕ, ◌+◌, ◌%◌, ◌^◌, List, [], ◌∷◌, ◌++◌, map, sym, ◌∙◌, ap, zero-add}
+use Rattle.std.specs.Prelude.{slice_index}
+use Rattle.std.proofs.Math.Nat.{add-mod-mod}
+use Rattle.rv_base.specs.declared.record.Tuple.{Tuple}
+use Rattle.rv_spec.specs.Digest.{Lanes, lane_numbers, digest_lane, digest, add_lanes}
+use Rattle.rv_spec.proofs.DigestLaws.{digest-append}
+
+reduced : (x n m : ℕ) → (x + n) % m ≡ (x + (0 + n) % m) % m
+reduced x n m = ap (λ k. (x + k) % m) (sym (zero-add n)) ∙ sym (add-mod-mod x (0 + n) m)
+
+-- the lanes of a tuple add up as the digest of the tuple alone does
+add_lanes-tuple : (lanes : Lanes) (xs : List ℕ) (t : Tuple) → add_lanes xs (lanes t) ≡ add_lanes xs (digest lanes (t ∷ []))
+unfolding digest_lane
+add_lanes-tuple lanes xs t = λ i. map (λ j. reduced (slice_index xs j) (slice_index (lanes t) j) (2 ^ 64) i) lane_numbers
+
+-- one more tuple
+pub digest-snoc : (lanes : Lanes) (ts : List Tuple) (t : Tuple) → add_lanes (digest lanes ts) (lanes t) ≡ digest lanes (ts ++ t ∷ [])
+digest-snoc lanes ts t = add_lanes-tuple lanes (digest lanes ts) t ∙ sym (digest-append lanes ts (t ∷ []))

@@ -1,0 +1,7 @@
+pub mod CalmShelf
+pub mod Counts
+pub mod FileMap
+pub mod Files
+pub mod MemShelf
+pub mod MemSink
+pub mod Transfers

@@ -1,0 +1,95 @@
+use super::*;
+use std::fs;
+use std::test::Fail;
+
+fn holds(file: Option<&[u8]>, bytes: &[u8]) -> bool {
+    match file {
+        Some(found) => found == bytes,
+        None => false,
+    }
+}
+
+#[test]
+fn a_planned_append_takes_some_bytes(rt: HostRuntime) -> Result<(), Fail> {
+    let mut shelf = MemShelf::new(rt.alloc());
+    shelf.put("record", b"old")?;
+    shelf.plan_write(2, 3);
+    assert!(rt; shelf.create("record").is_ok());
+    assert!(rt; shelf.append("record", b"head").is_ok());
+    assert!(rt; shelf.append("record", b"output").is_err());
+    assert!(rt; shelf.append("record", b"!").is_ok());
+    assert!(rt; holds(shelf.file("record"), b"headout!"));
+    assert!(rt; shelf.file("other").is_none());
+    Ok(())
+}
+
+#[test]
+fn a_planned_create_changes_nothing(rt: HostRuntime) -> Result<(), Fail> {
+    let mut shelf = MemShelf::new(rt.alloc());
+    shelf.put("a", b"1")?;
+    shelf.plan_create(1);
+    assert!(rt; shelf.create("a").is_err());
+    assert!(rt; holds(shelf.file("a"), b"1"));
+    assert!(rt; shelf.append("b", b"2").is_ok());
+    assert!(rt; holds(shelf.file("b"), b"2"));
+    Ok(())
+}
+
+#[test]
+fn reads_are_planned_and_capped(rt: HostRuntime) -> Result<(), Fail> {
+    let mut shelf = MemShelf::new(rt.alloc());
+    let mut into = [0; 4];
+    shelf.put("a", b"12345")?;
+    shelf.plan_read(2);
+    assert!(rt; shelf.read_at("a", 3, &mut into) == Ok(2));
+    assert!(rt; shelf.read_at("a", 0, &mut into).is_err());
+    shelf.limit_read(1);
+    assert!(rt; shelf.read_at("a", 2, &mut into) == Ok(1));
+    assert!(rt; shelf.read_at("a", 5, &mut into) == Ok(0));
+    assert!(rt; shelf.read_at("b", 0, &mut into).is_err());
+    assert!(rt; into == *b"35\0\0");
+    Ok(())
+}
+
+#[test]
+fn a_calm_shelf_reads_an_absent_name(rt: HostRuntime) -> Result<(), Fail> {
+    let mut shelf = CalmShelf::new(rt.alloc());
+    let mut into = [0; 4];
+    shelf.put("a", b"12")?;
+    assert!(rt; shelf.read_at("b", 0, &mut into) == Ok(0));
+    assert!(rt; shelf.append("a", b"3").is_ok());
+    assert!(rt; shelf.create("b").is_ok());
+    assert!(rt; shelf.read_at("a", 1, &mut into) == Ok(2));
+    assert!(rt; holds(shelf.file("b"), b""));
+    Ok(())
+}
+
+#[test]
+fn a_planned_put_takes_some_bytes(rt: HostRuntime) {
+    let mut sink = MemSink::new(rt.alloc());
+    sink.plan(2, 9);
+    assert!(rt; sink.put(b"made").is_ok());
+    assert!(rt; sink.put(b" steps").is_err());
+    assert!(rt; sink.put(b"!").is_ok());
+    assert!(rt; sink.bytes() == b"made steps!".as_slice());
+    OpenGate.pass(0, 1);
+}
+
+#[test]
+fn the_files_of_the_system(rt: HostRuntime) -> Result<(), Fail> {
+    let name = "real_shelf_test_file";
+    let mut shelf = RealShelf::new(rt);
+    let mut into = [0; 4];
+    assert!(rt; shelf.create(name).is_ok());
+    assert!(rt; shelf.append(name, b"12345").is_ok());
+    assert!(rt; shelf.read_at(name, 2, &mut into) == Ok(3));
+    fs::remove_file(&rt, name)?;
+    assert!(rt; shelf.read_at(name, 0, &mut into).is_err());
+    assert!(rt; into == *b"345\0");
+    Ok(())
+}
+
+#[test]
+fn standard_output(rt: HostRuntime) {
+    assert!(rt; RealSink::new(rt).put(b"written\n").is_ok());
+}

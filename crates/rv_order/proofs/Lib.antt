@@ -1,0 +1,5 @@
+pub mod TupleOrder
+pub mod Differences
+pub mod LastUse
+pub mod Pigeonhole
+pub mod Converse

@@ -1,0 +1,5 @@
+use Rattle.rv_spec.proofs.MultisetLaws.{digest-same}
+use Rattle.rv_order.proofs.laws.equal_digests.Goals as goal
+
+pub returns : goal.returns
+returns c = digest-same

@@ -1,0 +1,35 @@
+-- A row as the definitions know it, and what reading one answers.
+use Rattle.std.specs.Prelude.{◌≡◌, ℕ, ◌+◌, ◌*◌, ◌≤◌, List, ◌++◌, length, drop, Some, None, slice_index}
+use Rattle.rv_spec.specs.Trace.{Row as Traced}
+use Rattle.rv_spec.specs.Record.{row_bytes}
+use Rattle.rv_spec.specs.Form.{RowFits}
+use Rattle.rv_spec.specs.Reading.{row_of, row_form}
+use Rattle.rv_spec.specs.Checks.{first_broken}
+use Rattle.rv_row.specs.declared.rows.Row.{Row}
+use Rattle.rv_row.specs.declared.rows.RowRead.{RowRead}
+use Rattle.rv_row.specs.declared.rows.RowRead.TheVariants as read
+
+abbrev pub row_view : Row → Traced
+row_view r = record { pc = r.pc; next = r.next; accesses = r.accesses.items }
+
+-- What reading a row at the front of bytes answers: the row and its length where its form is good, else which check of form is the first to be broken.
+abbrev pub ReadsRow : List ℕ → RowRead → Type 0
+ReadsRow bytes (read.Row r n) = (first_broken (row_form bytes) ≡ None) × (row_view r ≡ row_of bytes) × (n ≡ 9 + 21 * slice_index bytes 8) × (n ≤ length bytes)
+ReadsRow bytes read.Short = first_broken (row_form bytes) ≡ Some 1
+ReadsRow bytes read.Shape = first_broken (row_form bytes) ≡ Some 10
+
+-- A row that is answered is spelled by the bytes.
+abbrev pub SpellsRow : List ℕ → RowRead → Type 0
+SpellsRow bytes (read.Row r n) = RowFits (row_view r) × (bytes ≡ row_bytes (row_view r) ++ drop n bytes)
+SpellsRow bytes read.Short = Unit {0}
+SpellsRow bytes read.Shape = Unit {0}
+
+-- The answer is this row, of this many bytes.
+abbrev pub IsRow : RowRead → Traced → ℕ → Type 0
+IsRow (read.Row r n) row size = (row_view r ≡ row) × (n ≡ size)
+IsRow read.Short row size = ⊥
+IsRow read.Shape row size = ⊥
+
+-- The law of one spelling: bytes begin with at most one row.
+abbrev pub OneRow : Type 0
+OneRow = (r s : Traced) (x y : List ℕ) → RowFits r → RowFits s → row_bytes r ++ x ≡ row_bytes s ++ y → (r ≡ s) × (x ≡ y)

@@ -1,0 +1,59 @@
+//! Rows to bytes.
+
+ghost use Rattle.std.specs.Prelude.{◌≡◌, ◌+◌, ◌*◌, ◌≤◌, ◌++◌, length, take, OnOk, OnErr};
+ghost use Rattle.std.specs.List.{flat_map};
+ghost use Rattle.rv_spec.specs.Record.{access_bytes, row_bytes};
+ghost use Rattle.rv_row.specs.RowReading.{row_view};
+
+use crate::rows::Row;
+use rv_base::{Access, NoMemory, set32, set64};
+
+/// The most bytes that a row has.
+const LONGEST: usize = 177;
+
+/// Writes the 21 bytes of an access at a place.
+fn write_access(bytes: &mut [u8], at: usize, access: &Access)
+    requires { at + 21 ≤ length bytes.old }
+    ensures { take (at + 21) bytes.new ≡ take at bytes.old ++ access_bytes access.now }
+{
+    bytes[at] = access.slot;
+    set32(bytes, at + 1, access.cell);
+    set32(bytes, at + 5, access.old);
+    set64(bytes, at + 9, access.prev);
+    set32(bytes, at + 17, access.new);
+}
+
+/// Writes accesses one after another from byte 9 on.
+fn write_accesses(bytes: &mut [u8], accesses: &[Access])
+    requires { 9 + 21 * length accesses.now ≤ length bytes.old }
+    ensures { take (9 + 21 * length accesses.now) bytes.new ≡ take 9 bytes.old ++ flat_map access_bytes accesses.now }
+{
+    for (j, access) in accesses.iter().enumerate() {
+        write_access(bytes, 9 + 21 * j, access);
+    }
+}
+
+/// Writes the bytes of a row at the front, and tells how many there are.
+fn fill_row(bytes: &mut [u8], row: &Row) -> usize
+    requires { length bytes.old ≡ LONGEST }
+    ensures most { result ≤ LONGEST }
+    ensures filled { take result bytes.new ≡ row_bytes (row_view row.now) }
+{
+    let accesses = row.accesses.as_slice();
+    set32(bytes, 0, row.pc);
+    set32(bytes, 4, row.next);
+    bytes[8] = accesses.len() as u8;
+    write_accesses(bytes, accesses);
+    9 + 21 * accesses.len()
+}
+
+/// Appends the bytes of a row: pc (4 bytes), next (4), the number of accesses (1), and 21 bytes for each access. After a refusal `to` is as it was.
+pub fn write_row(row: &Row, to: &mut Vec<u8>) -> Result<(), NoMemory>
+    requires { 1 ≤ length row.now.accesses.items }
+    ensures ok { OnOk result (to.new.items ≡ to.old.items ++ row_bytes (row_view row.now)) }
+    ensures err { OnErr result (to.new.items ≡ to.old.items) }
+{
+    let mut bytes = [0; LONGEST];
+    let length = fill_row(&mut bytes, row);
+    to.extend_from_slice(&bytes[..length]).map_err(|_| NoMemory)
+}
