@@ -1,0 +1,5 @@
+pub mod Faults
+pub mod Segments
+pub mod Index
+pub mod Loaded
+pub mod Written

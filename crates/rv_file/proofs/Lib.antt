@@ -1,0 +1,13 @@
+pub mod Writing
+pub mod Steps
+pub mod Cells
+pub mod RowLists
+pub mod ShardLaws
+pub mod EntryLaws
+pub mod HeaderLaws
+pub mod FileLaws
+pub mod Skipped
+pub mod ParseLaws
+pub mod HeaderChecks
+pub mod Showing
+pub mod FormSteps

@@ -1,0 +1,9 @@
+use Rattle.std.proofs.Common.{◌≡◌, ◌-◌}
+use Rattle.rv_file.specs.Parsing.{behind_shards, HoldsShards}
+use Rattle.rv_file.proofs.parsing.behind.Given as goal
+
+abbrev pub invariant-loop : goal.invariant-loop
+invariant-loop l = record {
+  same : behind_shards (l.shards - l.counter) l.rest ≡ behind_shards l.shards l.bytes;
+  holds : HoldsShards (l.shards - l.counter) l.rest;
+}

@@ -1,0 +1,76 @@
+-- What is left of a file behind its parts, by their form alone: private steps of parsing.
+use Rattle.std.specs.Prelude.{◌≡◌, ℕ, zero, suc, ◌+◌, ◌-◌, ◌*◌, false, ◌&&◌, ◌||◌, List, [], ◌∷◌, length, drop, Option, Some, None, Result, Ok, Err, slice_index, nat_le, ◌==◌}
+use Rattle.std.specs.Int.{div_ceil, is_in_range}
+use Rattle.rv_base.specs.declared.record.Header.{Header}
+use Rattle.rv_base.specs.declared.record.Refusal.{Refusal}
+use Rattle.rv_base.specs.declared.record.ShardHead.{ShardHead}
+use Rattle.rv_spec.specs.Record.{shard_rows}
+use Rattle.rv_spec.specs.Words.{u32_at}
+use Rattle.rv_spec.specs.Digest.{tiny_lanes}
+use Rattle.rv_spec.specs.Reading.{header_of, header_checks, head_of, row_form, read_entry}
+use Rattle.rv_spec.specs.Checks.{Check, unless_broken, ◌>>=◌}
+
+-- What a function returned, seen by view, is what reading gives.
+abbrev pub Gives : {X Y : Type 0} → (X → Y) → Result X Refusal → Result Y Refusal → Type 0
+Gives view (Ok x) read = read ≡ Ok (view x)
+Gives view (Err e) read = read ≡ Err e
+
+-- the checks of a header's numbers
+abbrev pub number_checks : Header → List Check
+number_checks h =
+    (5, is_in_range 1 65536 h.size)
+    ∷ (6, nat_le 1 h.steps && h.shards == div_ceil h.steps h.size && nat_le h.shards 65536)
+    ∷ (7, nat_le h.end.kind 5 && (h.end.kind == 0 || h.end.code == 0))
+    ∷ (8, nat_le h.length 67108864)
+    ∷ []
+
+-- behind row r of shard i
+abbrev pub row_left : ℕ → ℕ → List ℕ → Result (List ℕ) Refusal
+row_left i r bytes = unless_broken i r (row_form bytes) (drop (9 + 21 * slice_index bytes 8) bytes)
+
+-- behind n rows from row r on
+unfoldable pub rows_left : ℕ → ℕ → ℕ → List ℕ → Result (List ℕ) Refusal
+rows_left zero i r bytes = Ok bytes
+rows_left (suc n) i r bytes = do
+  left ← row_left i r bytes
+  rows_left n i (r + 1) left
+
+-- behind the head of shard i, which has n rows
+abbrev pub head_left : ℕ → ℕ → List ℕ → Result (List ℕ) Refusal
+head_left i n bytes =
+    unless_broken i 0 ((1, nat_le 32 (length bytes)) ∷ (9, (head_of bytes).index == i && (head_of bytes).rows == n) ∷ []) (drop 32 bytes)
+
+-- behind the digests, where the rows had this many bytes
+abbrev pub digests_left : ℕ → ℕ → ShardHead → ℕ → List ℕ → Result (List ℕ) Refusal
+digests_left i n head size bytes = unless_broken i n ((20, size == head.bytes) ∷ (1, nat_le 256 (length bytes)) ∷ []) (drop 256 bytes)
+
+-- behind shard i
+unfoldable pub shard_left : Header → ℕ → List ℕ → Result (List ℕ) Refusal
+shard_left h i bytes = do
+  let n = shard_rows h.size h.steps i
+  rows ← head_left i n bytes
+  left ← rows_left n i 0 rows
+  digests_left i n (head_of bytes) (length rows - length left) left
+
+-- behind n shards from shard i on
+unfoldable pub shards_left : ℕ → Header → ℕ → List ℕ → Result (List ℕ) Refusal
+shards_left zero h i bytes = Ok bytes
+shards_left (suc n) h i bytes = do
+  left ← shard_left h i bytes
+  shards_left n h (i + 1) left
+
+-- behind n entries of the table from entry j on
+unfoldable pub entries_left : ℕ → Header → ℕ → Option ℕ → List ℕ → Result (List ℕ) Refusal
+entries_left zero h j before bytes = Ok bytes
+entries_left (suc n) h j before bytes = do
+  first ← read_entry h j before bytes
+  entries_left n h (j + 1) (Some (first.0).cell) first.1
+
+-- The header and the number of entries of a file of good form, or the first check of form that is broken.
+unfoldable pub form_left : List ℕ → Result (Header × ℕ) Refusal
+form_left file = do
+  h ← unless_broken 0 0 (header_checks false tiny_lanes [] [] file) (header_of file)
+  table ← shards_left h.shards h 0 (drop (173 + h.length) file)
+  entries ← unless_broken h.shards 0 ((1, nat_le 4 (length table)) ∷ []) (drop 4 table)
+  left ← entries_left (u32_at table 0) h 0 None entries
+  unless_broken h.shards (u32_at table 0) ((27, length left == 0) ∷ []) (h, u32_at table 0)

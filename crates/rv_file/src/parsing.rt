@@ -1,0 +1,251 @@
+//! Whole record files.
+
+ghost use Rattle.std.specs.Prelude.{◌≡◌, ◌+◌, ◌-◌, ◌≤◌, false, ◌∷◌, [], length, take, drop, bytes_eq, IfOk, MatchResult, Ok, Err, nat_le, option_copied, option_map, slice_get};
+ghost use Rattle.rv_spec.specs.Record.{Parts, magic, shard_bytes};
+ghost use Rattle.rv_spec.specs.Form.{Spells};
+ghost use Rattle.rv_spec.specs.Digest.{tiny_lanes};
+ghost use Rattle.rv_spec.specs.Reading.{header_of, header_checks, head_of, entry_of};
+ghost use Rattle.rv_spec.specs.Checks.{first_broken, unless_broken};
+ghost use Rattle.rv_spec.specs.Verdict.{parse as parse_of};
+ghost use Rattle.rv_file.specs.Skipping.{Gives, number_checks, form_left};
+ghost use Rattle.rv_file.specs.Parsing.{behind_shards, HoldsShards};
+
+use crate::header::{OUTPUT_LIMIT, header_fields, is_known};
+use crate::heads::head_fields;
+use crate::skipping::{skip_entries, skip_shards};
+use crate::table::entry_fields;
+use rv_base::{Header, Refusal, TableEntry, get32};
+use std::marker::Model;
+
+/// The most rows of a shard, and the most shards.
+const LIMIT: u32 = 65_536;
+
+/// The first rule on a header's numbers that is broken.
+fn broken_number(h: &Header) -> Option<u8>
+    ensures { result ≡ first_broken (number_checks h.now) }
+{
+    if h.size < 1 || h.size > LIMIT {
+        return Some(5);
+    }
+    if h.steps < 1 || h.shards as u64 != h.steps.div_ceil(h.size as u64) || h.shards > LIMIT {
+        return Some(6);
+    }
+    if h.end.kind > 5 || h.end.kind != 0 && h.end.code != 0 {
+        return Some(7);
+    }
+    if h.length > OUTPUT_LIMIT {
+        return Some(8);
+    }
+    None
+}
+
+/// Whether the file begins with the magic of the version that its eighth byte tells.
+fn has_magic(file: &[u8]) -> bool
+    requires { 8 ≤ length file.now }
+    ensures { result ≡ bytes_eq (take 8 file.now) (magic (header_of file.now).version) }
+{
+    is_known(file)
+}
+
+/// The first rule of a header that is broken, and 1 where the output isn't all there.
+fn broken_rule(file: &[u8]) -> Option<u8>
+    ensures { result ≡ first_broken (header_checks false tiny_lanes [] [] file.now) }
+{
+    if file.len() < 173 {
+        return Some(1);
+    }
+    if !has_magic(file) {
+        return Some(2);
+    }
+    let header = header_fields(file);
+    if let Some(rule) = broken_number(&header) {
+        return Some(rule);
+    }
+    if ((file.len() - 173) as u64) < header.length {
+        return Some(1);
+    }
+    None
+}
+
+/// The header of a file, in front of all of its output.
+fn checked_header(file: &[u8]) -> Result<Header, Refusal>
+    ensures exact { Gives (λ h. h) result (unless_broken 0 0 (header_checks false tiny_lanes [] [] file.now) (header_of file.now)) }
+    ensures room { IfOk result (λ h. 173 + h.length ≤ length file.now) }
+{
+    match broken_rule(file) {
+        Some(rule) => Err(Refusal {
+            shard: 0,
+            row: 0,
+            rule,
+        }),
+        None => Ok(header_fields(file)),
+    }
+}
+
+/// The bytes behind the number of the table's entries.
+fn behind_count(shards: u32, bytes: &[u8]) -> Result<&[u8], Refusal>
+    ensures exact { Gives (λ x. x.now) result (unless_broken shards 0 ((1, nat_le 4 (length bytes.now)) ∷ []) (drop 4 bytes.now)) }
+    ensures room { IfOk result (λ _. 4 ≤ length bytes.now) }
+{
+    if bytes.len() < 4 {
+        return Err(Refusal {
+            shard: shards,
+            row: 0,
+            rule: 1,
+        });
+    }
+    Ok(&bytes[4..])
+}
+
+/// The header and the number of the table's entries, of a file of good form.
+fn form(file: &[u8]) -> Result<(Header, u32), Refusal>
+    ensures { Gives (λ x. x) result (form_left file.now) }
+{
+    let header = checked_header(file)?;
+    let shards = shards_of(file, header.length as usize);
+    let table = skip_shards(&header, shards)?;
+    let entries = behind_count(header.shards, table)?;
+    let count = get32(table, 0);
+    let rest = skip_entries(&header, count, entries)?;
+    if !rest.is_empty() {
+        return Err(Refusal {
+            shard: header.shards,
+            row: count,
+            rule: 27,
+        });
+    }
+    Ok((header, count))
+}
+
+/// A record file of good form. Contracts see its parts.
+#[derive(Drop)]
+pub struct Parsed<'a> {
+    file: &'a [u8],
+    header: Header,
+    entries: u32,
+}
+
+impl<'a> Model for Parsed<'a> {
+    ghost use Rattle.rv_spec.specs.Record.{Parts};
+    ghost use Rattle.rv_file.specs.Parsing.{parts_of, Shows};
+
+    ghost Value = { Parts };
+
+    ghost view = { λ s. parts_of s.file.now };
+
+    ghost invariant = { λ s. Shows s.file.now s.header s.entries };
+}
+
+/// The parts of a record file, or the first check of form that is broken: its shard, its row and its rule. One pass, and no memory is taken.
+pub fn parse(file: &[u8]) -> Result<Parsed<'_>, Refusal>
+    ensures exact { MatchResult result (λ p. parse_of file.now ≡ Ok p) (λ r. parse_of file.now ≡ Err r) }
+    // What is shown is spelled so.
+    ensures spelled { IfOk result (λ p. Spells p file.now) }
+    // What is spelled so is shown.
+    ensures only { (p : Parts) → Spells p file.now → MatchResult result (λ q. q ≡ p) (λ _. ⊥) }
+{
+    let (header, entries) = form(file)?;
+    Ok(Parsed {
+        file,
+        header,
+        entries,
+    })
+}
+
+/// The bytes of the output, where it has this length.
+fn output_of(file: &[u8], size: usize) -> &[u8]
+    requires { 173 + size ≤ length file.now }
+    ensures { result.now ≡ take size (drop 173 file.now) }
+{
+    &file[173..173 + size]
+}
+
+/// The bytes from the first shard on, where the output has this length.
+fn shards_of(file: &[u8], size: usize) -> &[u8]
+    requires { 173 + size ≤ length file.now }
+    ensures { result.now ≡ drop (173 + size) file.now }
+{
+    &file[173 + size..]
+}
+
+/// The first shard, of the size that its head states.
+fn first_shard(bytes: &[u8]) -> &[u8]
+    requires { 288 + (head_of bytes.now).bytes ≤ length bytes.now }
+    ensures { result.now ≡ take (288 + (head_of bytes.now).bytes) bytes.now }
+{
+    &bytes[..288 + head_fields(bytes).bytes as usize]
+}
+
+/// The bytes behind the first shard.
+fn other_shards(bytes: &[u8]) -> &[u8]
+    requires { 288 + (head_of bytes.now).bytes ≤ length bytes.now }
+    ensures { result.now ≡ drop (288 + (head_of bytes.now).bytes) bytes.now }
+{
+    &bytes[288 + head_fields(bytes).bytes as usize..]
+}
+
+/// Goes over this many shards, by the sizes that their heads state.
+fn behind(bytes: &[u8], shards: u32) -> &[u8]
+    requires { HoldsShards shards bytes.now }
+    ensures { result.now ≡ behind_shards shards bytes.now }
+{
+    let mut rest = bytes;
+    for _ in 0..shards {
+        rest = other_shards(rest);
+    }
+    rest
+}
+
+/// The entry that begins this many bytes before the end.
+fn entry_before_end(file: &[u8], behind: usize) -> TableEntry
+    requires there { 16 ≤ behind }
+    requires within { behind ≤ length file.now }
+    ensures { result ≡ entry_of (drop (length file.now - behind) file.now) }
+{
+    entry_fields(&file[file.len() - behind..])
+}
+
+impl<'a> Parsed<'a> {
+    pub fn header(&self) -> Header
+        ensures { result ≡ self.now.header }
+    {
+        self.header
+    }
+
+    /// The output that the run put.
+    pub fn output(&self) -> &'a [u8]
+        ensures { result.now ≡ self.now.output }
+    {
+        output_of(self.file, self.header.length as usize)
+    }
+
+    /// Shard i: its head, its rows and its digests. None exactly where i isn't below the number of shards. Goes over the heads of the shards before it.
+    pub fn shard(&self, i: u32) -> Option<&'a [u8]>
+        ensures { option_copied result ≡ option_map shard_bytes (slice_get self.now.shards i) }
+    {
+        if i >= self.header.shards {
+            return None;
+        }
+        let shards = shards_of(self.file, self.header.length as usize);
+        let rest = behind(shards, i);
+        Some(first_shard(rest))
+    }
+
+    /// Entry j of the table. None exactly where j isn't below the number of entries.
+    pub fn entry(&self, j: u32) -> Option<TableEntry>
+        ensures { result ≡ slice_get self.now.table j }
+    {
+        if j >= self.entries {
+            return None;
+        }
+        let behind = 16 * (self.entries - j) as usize;
+        Some(entry_before_end(self.file, behind))
+    }
+
+    /// The number of entries of the table.
+    pub fn entries(&self) -> u32
+        ensures { result ≡ length self.now.table }
+    {
+        self.entries
+    }
+}

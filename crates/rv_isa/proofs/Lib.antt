@@ -1,0 +1,20 @@
+mod WordRanges
+mod SignedWords
+mod Results
+mod Uses
+mod Registers
+mod Operations
+mod Jumps
+mod Loads
+mod Stores
+mod Atomics
+mod Calls
+mod Slots
+mod Fields
+mod Agreement
+mod States
+mod Frame
+mod LastUses
+pub mod Made
+pub mod Lanes
+pub mod Fetched

@@ -1,0 +1,104 @@
+use super::*;
+use rv_base::End;
+
+const PC: u32 = 0x10000;
+
+const NOTHING: Seen = Seen {
+    s1: 0,
+    s2: 0,
+    s3: 0,
+    s4: 0,
+    s5: 0,
+    s6: 0,
+    s7: 0,
+    s8: 0,
+};
+
+const CONDITIONAL: Seen = Seen {
+    s1: 0x1862_A3AF,
+    s2: 0x20000,
+    s8: 0x20001,
+    ..NOTHING
+};
+
+fn access(slot: u8, cell: u32, new: u32) -> Touch {
+    Touch { slot, cell, new }
+}
+
+#[test]
+fn instructions(rt: HostRuntime) {
+    let add = Seen {
+        s1: 0x0021_0133,
+        s2: 0x7FFF_F000,
+        s3: 0x7FFF_F000,
+        ..NOTHING
+    };
+    let jump = Seen {
+        s1: 0x0020_00E7,
+        ..NOTHING
+    };
+    let load = Seen {
+        s1: 0x0022_A303,
+        s2: 0x10000,
+        ..NOTHING
+    };
+    let store = Seen {
+        s1: 0x0062_A223,
+        s2: 0x10000,
+        s6: 0x0062_A223,
+        ..NOTHING
+    };
+    let end = |kind| Some(End { kind, code: 0 });
+    for (version, seen, count, last, next, end) in [
+        (1, add, 4, access(7, 0x4000_0002, 0xFFFF_E000), PC + 4, None),
+        (1, jump, 1, access(1, 0x4000, 0x0020_00E7), PC, end(3)),
+        (1, load, 2, access(2, 0x4000_0005, 0x10000), PC, end(4)),
+        (1, store, 4, access(6, 0x4001, 0), PC + 4, None),
+        (2, CONDITIONAL, 6, access(8, 0x4000_0020, 0), PC + 4, None),
+        (
+            1,
+            CONDITIONAL,
+            1,
+            access(1, 0x4000, 0x1862_A3AF),
+            PC,
+            end(1),
+        ),
+    ] {
+        let step = expect(version, PC, &seen, &[], 0);
+        assert_eq!(rt; step.touches.len(), count);
+        assert!(rt; step.touches.last() == Some(&last));
+        assert_eq!(rt; step.next, next);
+        assert!(rt; step.end == end);
+    }
+}
+
+#[test]
+fn calls(rt: HostRuntime) {
+    let read = Seen {
+        s1: 0x73,
+        s2: 63,
+        s4: 0x20003,
+        s5: 10,
+        ..NOTHING
+    };
+    let write = Seen {
+        s2: 64,
+        s3: 1,
+        s4: 0x20000,
+        s5: 2,
+        s6: 0x000A_6968,
+        ..read
+    };
+    let unknown = Seen { s2: 214, ..read };
+    for (seen, at, count, answer, took, put) in [
+        (read, 0, 7, 1, 1, 0),
+        (read, 2, 6, 0, 0, 0),
+        (write, 0, 7, 2, 0, 2),
+        (unknown, 0, 3, 0xFFFF_FFDA, 0, 0),
+    ] {
+        let step = expect(1, PC, &seen, &[0x41, 0x42], at);
+        assert_eq!(rt; step.touches.len(), count);
+        assert!(rt; step.touches.last() == Some(&access(7, 0x4000_000A, answer)));
+        assert_eq!(rt; (step.took, step.put), (took, put));
+    }
+}

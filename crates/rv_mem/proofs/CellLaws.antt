@@ -1,0 +1,418 @@
+-- What a memory holds in each cell, before and after a change.
+use Rattle.std.proofs.Common.{◌≡◌, ◌≢◌, ◌⊎◌, ℕ, zero, suc, ◌+◌, ◌-◌, ◌^◌, ◌<◌, ◌≤◌, Bool, true, false, cond, ◌&&◌, ◌||◌, ◌==◌, nat_lt, List, [], ◌∷◌, ◌++◌, length, map, replicate, set, get_or, Option, Some, None, Result, Ok, Err, option_map, unwrap_or, refl, sym, ◌∙◌, ap, ap₂, subst, inl, inr, arith, append-nil, length-set, get_or-set_other, get_or-set_same, true≢false}
+use Rattle.std.specs.List.{AllByRecursion, Contains}
+use Rattle.std.specs.Option.{option_or}
+use Rattle.std.specs.Result.{OnErr}
+use Rattle.std.proofs.lemmas.Bool.{eq-eqb, ne_eqb, eqb-true, lt-ltb, le-ltb, ltb-true, ltb-false}
+use Rattle.std.proofs.lemmas.List.{map-append}
+use Rattle.std.proofs.lemmas.List.Elements.{Contains-append_left, Contains-append_right, Contains-append_cases}
+use Rattle.std.proofs.lemmas.List.Folds.{find-append}
+use Rattle.rv_base.specs.declared.record.TableEntry.{TableEntry}
+use Rattle.rv_spec.specs.Elf.{Image}
+use Rattle.rv_spec.specs.Words.{word}
+use Rattle.rv_spec.specs.Step.{start, register}
+use Rattle.rv_spec.specs.Cells.{value, initial_value, is_cell, reservation_cell}
+use Rattle.rv_spec.specs.Form.{IsRising}
+use Rattle.rv_mem.specs.declared.word.Word.{Word}
+use Rattle.rv_mem.specs.declared.words.Words.{Words}
+use Rattle.rv_mem.specs.Contents.{Contents, entry_of, value_at, time_at, IsSet, IsTable}
+use Rattle.rv_mem.specs.Used.{no_word, if_used, used, word_at}
+use Rattle.rv_mem.specs.Words.{first_word}
+use Rattle.rv_mem.specs.Kept.{kept, cell_of, contents, IsBegun}
+use Rattle.rv_mem.proofs.UsedLaws.{used-same, used-none, used-add, one_used}
+use Rattle.rv_mem.proofs.WordsLaws.{equal_or_not}
+
+-- ---- the entry of a cell
+
+abbrev entry : ℕ → Word → TableEntry
+entry c w = record { cell = c; value = w.value; time = w.time }
+
+abbrev if_found : ℕ → Word → Option TableEntry
+if_found c w = cond (nat_lt 0 w.time) (Some (entry c w)) None
+
+entry-other : (a c : ℕ) (w : Word) → a ≢ c → entry_of (if_used a w) c ≡ None
+entry-other a c w n = elim (nat_lt 0 w.time) as (λ b. entry_of (cond b (entry a w ∷ []) []) c ≡ None) [
+  | true ↦ ap (λ b. cond b (Some (entry a w)) None) (ne_eqb a c n)
+  | false ↦ refl
+]
+
+entry-same : (a c : ℕ) (w : Word) → a ≡ c → entry_of (if_used a w) c ≡ if_found a w
+entry-same a c w e = elim (nat_lt 0 w.time) as (λ b. entry_of (cond b (entry a w ∷ []) []) c ≡ cond b (Some (entry a w)) None) [
+  | true ↦ ap (λ b. cond b (Some (entry a w)) None) (eq-eqb a c e)
+  | false ↦ refl
+]
+
+or-none : (o : Option TableEntry) → option_or o None ≡ o
+or-none None = refl
+or-none (Some x) = refl
+
+found-beyond : (f : ℕ → Word) (from n c : ℕ) → from + n ≤ c → entry_of (used f from n) c ≡ None
+unfolding used
+found-beyond f from zero c h = refl
+found-beyond f from (suc n) c h =
+    find-append (λ e. e.cell == c) (used f from n) (if_used (from + n) (f (from + n)))
+    ∙ ap₂ option_or (found-beyond f from n c (omega arith)) (entry-other (from + n) c (f (from + n)) (λ e. absurd (omega arith)))
+
+found : (f : ℕ → Word) (from n c : ℕ) → from ≤ c → c < from + n → entry_of (used f from n) c ≡ if_found c (f c)
+unfolding used
+found f from zero c l h = absurd (omega arith)
+found f from (suc n) c l h =
+    find-append (λ e. e.cell == c) (used f from n) (if_used (from + n) (f (from + n))) ∙ by (equal_or_not (from + n) c) (found f from n c l)
+  where
+    by : (from + n ≡ c) ⊎ (from + n ≢ c) → (c < from + n → entry_of (used f from n) c ≡ if_found c (f c))
+        → option_or (entry_of (used f from n) c) (entry_of (if_used (from + n) (f (from + n))) c) ≡ if_found c (f c)
+    by (inl e) before =
+        ap₂ option_or (found-beyond f from n c (omega arith)) (entry-same (from + n) c (f (from + n)) e)
+        ∙ ap (λ k. if_found k (f k)) e
+    by (inr e) before =
+        ap₂ option_or (before (omega arith)) (entry-other (from + n) c (f (from + n)) e)
+        ∙ or-none (if_found c (f c))
+
+-- its time and its value
+time-found : (c : ℕ) (w : Word) → unwrap_or (option_map (λ (e : TableEntry). e.time) (if_found c w)) 0 ≡ w.time
+time-found c w = elim (nat_lt 0 w.time) as (λ b. nat_lt 0 w.time ≡ b → unwrap_or (option_map (λ (e : TableEntry). e.time) (cond b (Some (entry c w)) None)) 0 ≡ w.time) [
+  | true ↦ λ e. refl
+  | false ↦ λ e. let none : w.time ≤ 0 = ltb-false 0 w.time e in omega arith
+] refl
+
+value-found : (c : ℕ) (w : Word) (v : ℕ) → (w.time ≡ 0 → w.value ≡ v) → unwrap_or (option_map (λ (e : TableEntry). e.value) (if_found c w)) v ≡ w.value
+value-found c w v h = elim (nat_lt 0 w.time) as (λ b. nat_lt 0 w.time ≡ b → unwrap_or (option_map (λ (e : TableEntry). e.value) (cond b (Some (entry c w)) None)) v ≡ w.value) [
+  | true ↦ λ e. refl
+  | false ↦ λ e. let none : w.time ≤ 0 = ltb-false 0 w.time e in sym (h (omega arith))
+] refl
+
+-- ---- what a memory holds in a cell
+
+pub time-kept : (m : Words) (r : List Word) (c : ℕ) → c < 1073741857 → time_at (contents m r) c ≡ (cell_of m r c).time
+unfolding time_at
+time-kept m r c h =
+    ap (λ o. unwrap_or (option_map (λ (e : TableEntry). e.time) o) 0) (found (cell_of m r) 0 1073741857 c (omega arith) (omega arith)) ∙ time-found c (cell_of m r c)
+
+pub value-kept : (m : Words) (r : List Word) (c : ℕ) → IsBegun m r → c < 1073741857 → value_at (contents m r) c ≡ (cell_of m r c).value
+unfolding value_at
+value-kept m r c begun h =
+    ap (λ o. unwrap_or (option_map (λ (e : TableEntry). e.value) o) (initial_value m.image c)) (found (cell_of m r) 0 1073741857 c (omega arith) (omega arith))
+    ∙ value-found c (cell_of m r c) (initial_value m.image c) (begun.unused c h)
+
+time-beyond : (m : Words) (r : List Word) (c : ℕ) → 1073741857 ≤ c → time_at (contents m r) c ≡ 0
+unfolding time_at
+time-beyond m r c h = ap (λ o. unwrap_or (option_map (λ (e : TableEntry). e.time) o) 0) (found-beyond (cell_of m r) 0 1073741857 c (omega arith))
+
+value-beyond : (m : Words) (r : List Word) (c : ℕ) → 1073741857 ≤ c → value_at (contents m r) c ≡ initial_value m.image c
+unfolding value_at
+value-beyond m r c h = ap (λ o. unwrap_or (option_map (λ (e : TableEntry). e.value) o) (initial_value m.image c)) (found-beyond (cell_of m r) 0 1073741857 c (omega arith))
+
+-- ---- a change of one cell, and of none
+
+low_or_high : (a b : ℕ) → (a < b) ⊎ (b ≤ a)
+low_or_high a b = elim (nat_lt a b) as (λ t. nat_lt a b ≡ t → (a < b) ⊎ (b ≤ a)) [ true ↦ λ e. inl (ltb-true a b e) | false ↦ λ e. inr (ltb-false a b e) ] refl
+
+record IsChange (m n : Words) (r s : List Word) (cell : ℕ) (w : Word) : Type 0 where
+  image : n.image ≡ m.image
+  full : length s ≡ 33
+  here : cell_of n s cell ≡ w
+  others : (c : ℕ) → c < 1073741857 → c ≢ cell → cell_of n s c ≡ cell_of m r c
+
+begun-changed : (m n : Words) (r s : List Word) (cell : ℕ) (w : Word) → IsBegun m r → 0 < w.time → IsChange m n r s cell w → IsBegun n s
+begun-changed m n r s cell w begun t change = record { full = change.full; unused = λ c h z. by c h z (equal_or_not c cell) }
+  where
+    by : (c : ℕ) → c < 1073741857 → (cell_of n s c).time ≡ 0 → (c ≡ cell) ⊎ (c ≢ cell) → (cell_of n s c).value ≡ initial_value n.image c
+    by c h z (inl e) =
+        let set_time : (cell_of n s c).time ≡ w.time = ap (λ k. (cell_of n s k).time) e ∙ ap (λ (v : Word). v.time) change.here in
+        absurd (omega arith)
+    by c h z (inr d) =
+        let same = change.others c h d in
+        ap (λ (v : Word). v.value) same ∙ begun.unused c h (sym (ap (λ (v : Word). v.time) same) ∙ z) ∙ ap (λ i. initial_value i c) (sym change.image)
+
+set-changed : (m n : Words) (r s : List Word) (cell : ℕ) (w : Word) → IsBegun m r → IsBegun n s → cell < 1073741857 → IsChange m n r s cell w → IsSet (contents m r) (contents n s) cell w.value w.time
+set-changed m n r s cell w begun now h change = record {
+  image = change.image;
+  value_set = value-kept n s cell now h ∙ ap (λ (v : Word). v.value) change.here;
+  time_set = time-kept n s cell h ∙ ap (λ (v : Word). v.time) change.here;
+  other_values = λ c d. values c d (low_or_high c 1073741857);
+  other_times = λ c d. times c d (low_or_high c 1073741857);
+}
+  where
+    values : (c : ℕ) → c ≢ cell → (c < 1073741857) ⊎ (1073741857 ≤ c) → value_at (contents n s) c ≡ value_at (contents m r) c
+    values c d (inl l) = value-kept n s c now l ∙ ap (λ (v : Word). v.value) (change.others c l d) ∙ sym (value-kept m r c begun l)
+    values c d (inr l) = value-beyond n s c l ∙ ap (λ i. initial_value i c) change.image ∙ sym (value-beyond m r c l)
+
+    times : (c : ℕ) → c ≢ cell → (c < 1073741857) ⊎ (1073741857 ≤ c) → time_at (contents n s) c ≡ time_at (contents m r) c
+    times c d (inl l) = time-kept n s c l ∙ ap (λ (v : Word). v.time) (change.others c l d) ∙ sym (time-kept m r c l)
+    times c d (inr l) = time-beyond n s c l ∙ sym (time-beyond m r c l)
+
+-- ---- a cell is a word of memory or a register
+
+pub cell-word : (m : Words) (r : List Word) (c : ℕ) → c < 2 ^ 30 → cell_of m r c ≡ kept m c
+unfolding cell_of
+cell-word m r c h = ap (λ b. cond b (kept m c) (get_or r (c - 2 ^ 30) no_word)) (lt-ltb c (2 ^ 30) h)
+
+pub cell-register : (m : Words) (r : List Word) (c : ℕ) → 2 ^ 30 ≤ c → cell_of m r c ≡ get_or r (c - 2 ^ 30) no_word
+unfolding cell_of
+cell-register m r c h = ap (λ b. cond b (kept m c) (get_or r (c - 2 ^ 30) no_word)) (le-ltb c (2 ^ 30) h)
+
+-- each cell of a program has a place
+neither : (b : Bool) → (b && false || false) ≡ false
+neither true = refl
+neither false = refl
+
+no_cell : (c : ℕ) → 1073741857 ≤ c → is_cell 2 c ≡ false
+no_cell c h =
+    ap (λ b. b || nat_lt (2 ^ 30) c && nat_lt c (2 ^ 30 + 32) || c == reservation_cell) (le-ltb c (2 ^ 30) (omega arith))
+    ∙ ap (λ b. nat_lt (2 ^ 30) c && b || c == reservation_cell) (le-ltb c (2 ^ 30 + 32) (omega arith))
+    ∙ ap (λ b. nat_lt (2 ^ 30) c && false || b) (ne_eqb c reservation_cell (λ q. absurd (omega arith)))
+    ∙ neither (nat_lt (2 ^ 30) c)
+
+pub cell-within : (c : ℕ) → is_cell 2 c ≡ true → c < 1073741857
+cell-within c e = by (low_or_high c 1073741857)
+  where
+    by : (c < 1073741857) ⊎ (1073741857 ≤ c) → c < 1073741857
+    by (inl h) = h
+    by (inr h) = absurd (true≢false (sym e ∙ no_cell c h))
+
+change-register : (m : Words) (r : List Word) (cell : ℕ) (w : Word) → IsBegun m r → 2 ^ 30 ≤ cell → cell < 1073741857 → IsChange m m r (set r (cell - 2 ^ 30) w) cell w
+change-register m r cell w begun low high =
+    let full : length r ≡ 33 = begun.full in
+    record {
+      image = refl;
+      full = length-set r (cell - 2 ^ 30) w ∙ begun.full;
+      here = cell-register m (set r (cell - 2 ^ 30) w) cell low ∙ get_or-set_same r (cell - 2 ^ 30) w no_word (omega arith);
+      others = λ c h d. by c d (low_or_high c (2 ^ 30));
+    }
+  where
+    by : (c : ℕ) → c ≢ cell → (c < 2 ^ 30) ⊎ (2 ^ 30 ≤ c) → cell_of m (set r (cell - 2 ^ 30) w) c ≡ cell_of m r c
+    by c d (inl l) = cell-word m (set r (cell - 2 ^ 30) w) c l ∙ sym (cell-word m r c l)
+    by c d (inr l) =
+        cell-register m (set r (cell - 2 ^ 30) w) c l ∙ get_or-set_other r (cell - 2 ^ 30) (c - 2 ^ 30) w no_word (λ e. d (omega arith))
+        ∙ sym (cell-register m r c l)
+
+change-word : (m n : Words) (r : List Word) (cell : ℕ) (w : Word) → IsBegun m r → cell < 2 ^ 30 → n.image ≡ m.image → kept n cell ≡ w
+    → ((c : ℕ) → c < 2 ^ 30 → c ≢ cell → kept n c ≡ kept m c) → IsChange m n r r cell w
+change-word m n r cell w begun low image here others = record {
+  image = image;
+  full = begun.full;
+  here = cell-word n r cell low ∙ here;
+  others = λ c h d. by c d (low_or_high c (2 ^ 30));
+}
+  where
+    by : (c : ℕ) → c ≢ cell → (c < 2 ^ 30) ⊎ (2 ^ 30 ≤ c) → cell_of n r c ≡ cell_of m r c
+    by c d (inl l) = cell-word n r c l ∙ others c l d ∙ sym (cell-word m r c l)
+    by c d (inr l) = cell-register n r c l ∙ sym (cell-register m r c l)
+
+pub begun-register : (m : Words) (r : List Word) (cell : ℕ) (w : Word) → IsBegun m r → 0 < w.time → 2 ^ 30 ≤ cell → cell < 1073741857 → IsBegun m (set r (cell - 2 ^ 30) w)
+begun-register m r cell w begun t low high = begun-changed m m r (set r (cell - 2 ^ 30) w) cell w begun t (change-register m r cell w begun low high)
+
+pub set-register : (m : Words) (r : List Word) (cell : ℕ) (w : Word) → IsBegun m r → 0 < w.time → 2 ^ 30 ≤ cell → cell < 1073741857
+    → IsSet (contents m r) (contents m (set r (cell - 2 ^ 30) w)) cell w.value w.time
+set-register m r cell w begun t low high =
+    let change = change-register m r cell w begun low high in
+    set-changed m m r (set r (cell - 2 ^ 30) w) cell w begun (begun-register m r cell w begun t low high) high change
+
+pub begun-word : (m n : Words) (r : List Word) (cell : ℕ) (w : Word) → IsBegun m r → 0 < w.time → cell < 2 ^ 30 → n.image ≡ m.image → kept n cell ≡ w
+    → ((c : ℕ) → c < 2 ^ 30 → c ≢ cell → kept n c ≡ kept m c) → IsBegun n r
+begun-word m n r cell w begun t low image here others = begun-changed m n r r cell w begun t (change-word m n r cell w begun low image here others)
+
+pub set-word : (m n : Words) (r : List Word) (cell : ℕ) (w : Word) → IsBegun m r → 0 < w.time → cell < 2 ^ 30 → n.image ≡ m.image → kept n cell ≡ w
+    → ((c : ℕ) → c < 2 ^ 30 → c ≢ cell → kept n c ≡ kept m c) → IsSet (contents m r) (contents n r) cell w.value w.time
+set-word m n r cell w begun t low image here others =
+    set-changed m n r r cell w begun (begun-word m n r cell w begun t low image here others) (omega arith) (change-word m n r cell w begun low image here others)
+
+-- where no word changes, no cell does
+same-cells : (m n : Words) (r : List Word) (cell : ℕ) → kept n cell ≡ kept m cell → ((c : ℕ) → c < 2 ^ 30 → c ≢ cell → kept n c ≡ kept m c) → (c : ℕ) → cell_of n r c ≡ cell_of m r c
+same-cells m n r cell here others c = by (low_or_high c (2 ^ 30)) (equal_or_not c cell)
+  where
+    by : (c < 2 ^ 30) ⊎ (2 ^ 30 ≤ c) → (c ≡ cell) ⊎ (c ≢ cell) → cell_of n r c ≡ cell_of m r c
+    by (inl l) (inl e) = cell-word n r c l ∙ ap (kept n) e ∙ here ∙ ap (kept m) (sym e) ∙ sym (cell-word m r c l)
+    by (inl l) (inr d) = cell-word n r c l ∙ others c l d ∙ sym (cell-word m r c l)
+    by (inr l) o = cell-register n r c l ∙ sym (cell-register m r c l)
+
+pub begun-same : (m n : Words) (r : List Word) (cell : ℕ) → IsBegun m r → n.image ≡ m.image → kept n cell ≡ kept m cell
+    → ((c : ℕ) → c < 2 ^ 30 → c ≢ cell → kept n c ≡ kept m c) → IsBegun n r
+begun-same m n r cell begun image here others = record {
+  full = begun.full;
+  unused = λ c h z.
+      let same = same-cells m n r cell here others c in
+      ap (λ (v : Word). v.value) same ∙ begun.unused c h (sym (ap (λ (v : Word). v.time) same) ∙ z) ∙ ap (λ i. initial_value i c) (sym image);
+}
+
+pub same-contents : (m n : Words) (r : List Word) (cell : ℕ) → n.image ≡ m.image → kept n cell ≡ kept m cell
+    → ((c : ℕ) → c < 2 ^ 30 → c ≢ cell → kept n c ≡ kept m c) → contents n r ≡ contents m r
+same-contents m n r cell image here others =
+    ap₂ of image (used-same (cell_of n r) (cell_of m r) 0 1073741857 (λ k h. same-cells m n r cell here others (0 + k)))
+  where
+    of : Image → List TableEntry → Contents
+    of i es = record { image = i; touched = es }
+
+-- ---- the cells before the first step
+
+abbrev pub first_registers : List Word
+first_registers = set (replicate 33 no_word) 2 (record { value = 0x7FFFF000; time = 0 })
+
+abbrev pointer_or_zero : ℕ → Word
+pointer_or_zero r = record { value = cond (r == 2) 0x7FFFF000 0; time = 0 }
+
+replicated : (n k : ℕ) → get_or (replicate n no_word) k no_word ≡ no_word
+replicated zero k = refl
+replicated (suc n) zero = refl
+replicated (suc n) (suc k) = replicated n k
+
+zeros : (z n k : ℕ) → get_or (replicate n z) k z ≡ z
+zeros z zero k = refl
+zeros z (suc n) zero = refl
+zeros z (suc n) (suc k) = zeros z n k
+
+register-first : (r : ℕ) → get_or first_registers r no_word ≡ pointer_or_zero r
+register-first r = by (equal_or_not r 2)
+  where
+    by : (r ≡ 2) ⊎ (r ≢ 2) → get_or first_registers r no_word ≡ pointer_or_zero r
+    by (inl e) = ap (λ k. get_or first_registers k no_word) e ∙ ap pointer_or_zero (sym e)
+    by (inr d) =
+        get_or-set_other (replicate 33 no_word) 2 r (record { value = 0x7FFFF000; time = 0 }) no_word d ∙ replicated 33 r
+        ∙ ap (λ b. to_word (cond b 0x7FFFF000 0)) (sym (ne_eqb r 2 d))
+      where
+        to_word : ℕ → Word
+        to_word v = record { value = v; time = 0 }
+
+initial-register : (i : Image) (r : ℕ) → initial_value i (2 ^ 30 + r) ≡ cond (r == 2) 0x7FFFF000 0
+unfolding value
+initial-register i r =
+    ap (λ b. cond b (word (start i).memory (2 ^ 30 + r)) (cond (2 ^ 30 + r == reservation_cell) 0 (register (start i) (2 ^ 30 + r - 2 ^ 30)))) (le-ltb (2 ^ 30 + r) (2 ^ 30) (omega arith))
+    ∙ ap (λ k. cond (2 ^ 30 + r == reservation_cell) 0 (register (start i) k)) (let k : 2 ^ 30 + r - 2 ^ 30 ≡ r = omega arith in k)
+    ∙ by (2 ^ 30 + r == reservation_cell) r (λ e. let same : 2 ^ 30 + r ≡ reservation_cell = eqb-true (2 ^ 30 + r) reservation_cell e in omega arith)
+  where
+    by : (b : Bool) (r : ℕ) → (b ≡ true → r ≡ 32) → cond b 0 (register (start i) r) ≡ cond (r == 2) 0x7FFFF000 0
+    by true r h = ap (λ k. cond (k == 2) 0x7FFFF000 0) (sym (h refl))
+    by false zero h = refl
+    by false (suc zero) h = refl
+    by false (suc (suc zero)) h = refl
+    by false (suc (suc (suc k))) h =
+        ap (λ b. cond b 0 (get_or (start i).registers (suc (suc (suc k)) - 1) 0)) (ne_eqb (suc (suc (suc k))) 0 (λ e. absurd (omega arith)))
+        ∙ ap (λ j. get_or (start i).registers j 0) (let j : suc (suc (suc k)) - 1 ≡ suc (suc k) = omega arith in j)
+        ∙ zeros 0 29 k
+        ∙ ap (λ b. cond b 0x7FFFF000 0) (sym (ne_eqb (suc (suc (suc k))) 2 (λ e. absurd (omega arith))))
+
+first-cell : (m : Words) → ((w : ℕ) → kept m w ≡ first_word m.image w) → (c : ℕ) → cell_of m first_registers c ≡ first_word m.image c
+first-cell m begun c = by (low_or_high c (2 ^ 30))
+  where
+    by : (c < 2 ^ 30) ⊎ (2 ^ 30 ≤ c) → cell_of m first_registers c ≡ first_word m.image c
+    by (inl l) = cell-word m first_registers c l ∙ begun c
+    by (inr l) =
+        cell-register m first_registers c l ∙ register-first (c - 2 ^ 30)
+        ∙ ap to_word (sym (initial-register m.image (c - 2 ^ 30)) ∙ ap (initial_value m.image) (let k : 2 ^ 30 + (c - 2 ^ 30) ≡ c = omega arith in k))
+      where
+        to_word : ℕ → Word
+        to_word v = record { value = v; time = 0 }
+
+pub begun-first : (m : Words) → ((w : ℕ) → kept m w ≡ first_word m.image w) → IsBegun m first_registers
+begun-first m begun = record { full = refl; unused = λ c h z. ap (λ (v : Word). v.value) (first-cell m begun c) }
+
+pub touched-first : (m : Words) → ((w : ℕ) → kept m w ≡ first_word m.image w) → used (cell_of m first_registers) 0 1073741857 ≡ []
+touched-first m begun = used-none (cell_of m first_registers) 0 1073741857 (λ k h. ap (λ (v : Word). v.time) (first-cell m begun (0 + k)))
+
+-- ---- the list of the used cells
+
+pub touched-parts : (m : Words) (r : List Word) → IsBegun m r → used (kept m) 0 (2 ^ 30) ++ used (word_at r (2 ^ 30)) (2 ^ 30) (length r) ≡ used (cell_of m r) 0 1073741857
+touched-parts m r begun =
+    ap₂ (λ a b. a ++ b)
+    (used-same (kept m) (cell_of m r) 0 (2 ^ 30) (λ k h. sym (cell-word m r (0 + k) (omega arith))))
+    (ap (used (word_at r (2 ^ 30)) (2 ^ 30)) begun.full
+    ∙ used-same (word_at r (2 ^ 30)) (cell_of m r) (2 ^ 30) 33 (λ k h. sym (cell-register m r (2 ^ 30 + k) (omega arith))))
+    ∙ sym (used-add (cell_of m r) 0 (2 ^ 30) 33)
+
+all-snoc : (P : ℕ → Type 0) (xs : List ℕ) (z : ℕ) → AllByRecursion P xs → P z → AllByRecursion P (xs ++ z ∷ [])
+all-snoc P [] z a p = (p, tt)
+all-snoc P (x ∷ xs) z a p = (a.0, all-snoc P xs z a.1 p)
+
+rising-snoc : (xs : List ℕ) (z : ℕ) → IsRising xs → AllByRecursion (λ y. y < z) xs → IsRising (xs ++ z ∷ [])
+rising-snoc [] z r b = (tt, tt)
+rising-snoc (x ∷ xs) z r b = (all-snoc (λ y. x < y) xs z r.0 b.0, rising-snoc xs z r.1 b.1)
+
+below-more : (xs : List ℕ) (z : ℕ) → AllByRecursion (λ y. y < z) xs → AllByRecursion (λ y. y < suc z) xs
+below-more [] z b = tt
+below-more (x ∷ xs) z b = ((let h = b.0 in omega arith), below-more xs z b.1)
+
+rises : (f : ℕ → Word) (from n : ℕ) → IsRising (map (λ (e : TableEntry). e.cell) (used f from n)) × ((b : ℕ) → from + n ≤ b → AllByRecursion (λ y. y < b) (map (λ (e : TableEntry). e.cell) (used f from n)))
+unfolding used
+rises f from zero = (tt, λ b h. tt)
+rises f from (suc n) =
+    let before = rises f from n in
+    let xs : List TableEntry = used f from n in
+    let next : TableEntry = entry (from + n) (f (from + n)) in
+    let joined : map (λ (e : TableEntry). e.cell) (xs ++ next ∷ []) ≡ map (λ (e : TableEntry). e.cell) xs ++ (from + n) ∷ [] = map-append (λ (e : TableEntry). e.cell) xs (next ∷ []) in
+    elim (nat_lt 0 (f (from + n)).time) as (λ t. IsRising (map (λ (e : TableEntry). e.cell) (xs ++ cond t (next ∷ []) []))
+    × ((b : ℕ) → from + suc n ≤ b → AllByRecursion (λ y. y < b) (map (λ (e : TableEntry). e.cell) (xs ++ cond t (next ∷ []) [])))) [
+      | true ↦ (
+        subst IsRising (sym joined) (rising-snoc (map (λ (e : TableEntry). e.cell) xs) (from + n) before.0 (before.1 (from + n) (omega arith))),
+        λ b h. subst (AllByRecursion (λ y. y < b)) (sym joined) (all-snoc (λ y. y < b) (map (λ (e : TableEntry). e.cell) xs) (from + n) (before.1 b (omega arith)) (omega arith)),
+      )
+      | false ↦ (
+        subst (λ (l : List TableEntry). IsRising (map (λ (e : TableEntry). e.cell) l)) (sym (append-nil xs)) before.0,
+        λ b h. subst (λ (l : List TableEntry). AllByRecursion (λ y. y < b) (map (λ (e : TableEntry). e.cell) l)) (sym (append-nil xs)) (before.1 b (omega arith)),
+      )
+    ]
+
+-- what is listed is used, and what is used is listed
+listed-used : (f : ℕ → Word) (from n : ℕ) (e : TableEntry) → Contains (used f from n) e → (c : ℕ) × (c < from + n) × (0 < (f c).time) × (e ≡ entry c (f c))
+unfolding used
+listed-used f from zero e (k, h, is) = absurd (omega arith)
+listed-used f from (suc n) e there = by (Contains-append_cases (used f from n) (if_used (from + n) (f (from + n))) e there) (listed-used f from n e)
+  where
+    last : (w : Word) → Contains (if_used (from + n) w) e → (0 < w.time) × (e ≡ entry (from + n) w)
+    last w = elim (nat_lt 0 w.time) as (λ b. nat_lt 0 w.time ≡ b → Contains (cond b (entry (from + n) w ∷ []) []) e → (0 < w.time) × (e ≡ entry (from + n) w)) [
+      | true ↦ λ t. λ (k, h, is). (ltb-true 0 w.time t, sym is ∙ first k h)
+      | false ↦ λ t. λ (k, h, is). absurd (omega arith)
+    ] refl
+      where
+        first : (k : ℕ) → k < 1 → get_or (entry (from + n) w ∷ []) k e ≡ entry (from + n) w
+        first zero h = refl
+        first (suc k) h = absurd (omega arith)
+
+    by : Contains (used f from n) e ⊎ Contains (if_used (from + n) (f (from + n))) e → (Contains (used f from n) e → (c : ℕ) × (c < from + n) × (0 < (f c).time) × (e ≡ entry c (f c)))
+        → (c : ℕ) × (c < from + suc n) × (0 < (f c).time) × (e ≡ entry c (f c))
+    by (inl l) before = let r = before l in (r.0, (let h = r.1 in omega arith), r.2, r.3)
+    by (inr r) before = let q = last (f (from + n)) r in (from + n, omega arith, q.0, q.1)
+
+used-listed : (f : ℕ → Word) (from n c : ℕ) → from ≤ c → c < from + n → 0 < (f c).time → Contains (used f from n) (entry c (f c))
+unfolding used
+used-listed f from zero c l h t = absurd (omega arith)
+used-listed f from (suc n) c l h t = by (equal_or_not (from + n) c) (λ low. used-listed f from n c l low t)
+  where
+    by : (from + n ≡ c) ⊎ (from + n ≢ c) → (c < from + n → Contains (used f from n) (entry c (f c))) → Contains (used f from n ++ if_used (from + n) (f (from + n))) (entry c (f c))
+    by (inl e) before =
+        Contains-append_right (used f from n) (if_used (from + n) (f (from + n))) (entry c (f c))
+        (subst (λ k. Contains (if_used k (f k)) (entry c (f c))) (sym e)
+        (subst (λ (l : List TableEntry). Contains l (entry c (f c))) (sym (one_used c (f c) t)) (0, (omega arith), refl)))
+    by (inr d) before = Contains-append_left (used f from n) (if_used (from + n) (f (from + n))) (entry c (f c)) (before (omega arith))
+
+pub table-touched : (m : Words) (r : List Word) → IsBegun m r → IsTable (contents m r) (contents m r).touched
+table-touched m r begun = record {
+  rising = (rises (cell_of m r) 0 1073741857).0;
+  set_only = λ e there.
+      let p = listed-used (cell_of m r) 0 1073741857 e there in
+      let c : ℕ = p.0 in
+      let low : c < 1073741857 = (let h = p.1 in omega arith) in
+      let is : e ≡ entry c (cell_of m r c) = p.3 in
+      let cell : e.cell ≡ c = ap (λ (e : TableEntry). e.cell) is in
+      let time : e.time ≡ (cell_of m r c).time = ap (λ (e : TableEntry). e.time) is in (
+        (let t = p.2 in omega arith),
+        ap (λ (e : TableEntry). e.value) is ∙ sym (value-kept m r c begun low) ∙ ap (value_at (contents m r)) (sym cell),
+        time ∙ sym (time-kept m r c low) ∙ ap (time_at (contents m r)) (sym cell),
+      );
+  all_set = λ c t. by c t (low_or_high c 1073741857);
+}
+  where
+    by : (c : ℕ) → 0 < time_at (contents m r) c → (c < 1073741857) ⊎ (1073741857 ≤ c)
+        → Contains (contents m r).touched (record { cell = c; value = value_at (contents m r) c; time = time_at (contents m r) c })
+    by c t (inr h) = absurd (let none = time-beyond m r c h in omega arith)
+    by c t (inl h) =
+        let time = time-kept m r c h in
+        subst (λ (e : TableEntry). Contains (contents m r).touched e) (ap₂ (to_entry c) (sym (value-kept m r c begun h)) (sym time))
+        (used-listed (cell_of m r) 0 1073741857 c (omega arith) (omega arith) (omega arith))
+      where
+        to_entry : ℕ → ℕ → ℕ → TableEntry
+        to_entry c v t = record { cell = c; value = v; time = t }
+
+-- a fact that holds holds on an error
+pub on-err : {T E : Type 0} (r : Result T E) (P : Type 0) → P → OnErr r P
+on-err (Ok x) P p = tt
+on-err (Err e) P p = p

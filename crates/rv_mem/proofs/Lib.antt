@@ -1,0 +1,4 @@
+pub mod CellLaws
+pub mod DirectoryLaws
+pub mod UsedLaws
+pub mod WordsLaws

@@ -1,0 +1,5 @@
+pub mod Contents
+pub mod Directory
+pub mod Kept
+pub mod Used
+pub mod Words

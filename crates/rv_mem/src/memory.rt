@@ -1,0 +1,100 @@
+//! The memory, the registers and the reservation of a run.
+
+ghost use Rattle.std.specs.Prelude.{◌≡◌, ◌<◌, [], IsTrue, IfOk, OnOk, OnErr};
+ghost use Rattle.rv_spec.specs.Cells.{is_cell};
+ghost use Rattle.rv_mem.specs.Contents.{value_at, time_at, IsSet, IsTable};
+
+use crate::page::list_used;
+use crate::word::Word;
+use crate::words::Words;
+use rv_base::{NoMemory, TableEntry};
+use rv_elf::Image;
+use std::alloc::Global;
+use std::marker::Model;
+
+/// The cell of x0, which is never used. Those of the other registers and of the reservation follow.
+const REGISTERS: u32 = 1 << 30;
+
+/// Where x2 points at the start.
+const STACK: u32 = 0x7FFF_F000;
+
+/// The cells of a run, each with its value and the time of its last use, or 0. Cell `w` below 2^30 is word
+/// `w` of memory, cell 2^30 + `r` is register `r` from 1 to 31, and cell 2^30 + 32 is the reservation.
+///
+/// A word takes memory of its own once a word of its page, 16 words from a multiple of 16 on, is set.
+#[derive(Drop)]
+pub struct Memory<'a> {
+    words: Words<'a>,
+    registers: [Word; 33],
+}
+
+impl<'a> Model for Memory<'a> {
+    ghost use Rattle.rv_mem.specs.Contents.{Contents};
+
+    ghost Value = { Contents };
+
+    ghost use Rattle.rv_mem.specs.Kept.{contents, IsBegun};
+
+    ghost view = { λ m. contents m.words m.registers };
+
+    ghost invariant = { λ m. IsBegun m.words m.registers };
+}
+
+impl<'a> Memory<'a> {
+    /// The cells before the first step, at time 0: the words of the image, x2 with 0x7FFFF000, and 0 in
+    /// each other register and in the reservation.
+    pub fn new(alloc: Global, image: &Image<'a>) -> Memory<'a>
+        ensures image { result.image ≡ image.now }
+        ensures touched { result.touched ≡ [] }
+    {
+        let mut registers = [Word { value: 0, time: 0 }; 33];
+        registers[2] = Word {
+            value: STACK,
+            time: 0,
+        };
+        Memory {
+            words: Words::new(alloc, image.copy()),
+            registers,
+        }
+    }
+
+    /// The value of a cell, and the time at which it was set, or 0.
+    pub fn get(&self, cell: u32) -> (u32, u64)
+        requires { IsTrue (is_cell 2 cell) }
+        ensures value { result.0 ≡ value_at self.now cell }
+        ensures time { result.1 ≡ time_at self.now cell }
+    {
+        if cell < REGISTERS {
+            let word = self.words.get(cell);
+            return (word.value, word.time);
+        }
+        let word = self.registers[(cell - REGISTERS) as usize];
+        (word.value, word.time)
+    }
+
+    /// Gives a cell a value and a time. Without memory for its page no cell changes.
+    pub fn set(&mut self, cell: u32, value: u32, time: u64) -> Result<(), NoMemory>
+        requires cell { IsTrue (is_cell 2 cell) }
+        requires time { 0 < time }
+        ensures ok { OnOk result (IsSet self.old self.new cell value time) }
+        ensures err { OnErr result (self.new ≡ self.old) }
+    {
+        let word = Word { value, time };
+        if cell < REGISTERS {
+            self.words.set(cell, word)?;
+            return Ok(());
+        }
+        self.registers[(cell - REGISTERS) as usize] = word;
+        Ok(())
+    }
+
+    /// The cells that were set, by rising number, with their values and times.
+    pub fn touched(&self) -> Result<Vec<TableEntry>, NoMemory>
+        ensures entries { IfOk result (λ entries. entries.items ≡ self.now.touched) }
+        ensures table { IfOk result (λ entries. IsTable self.now entries.items) }
+    {
+        let mut entries = self.words.touched()?;
+        list_used(REGISTERS, &self.registers, &mut entries)?;
+        Ok(entries)
+    }
+}

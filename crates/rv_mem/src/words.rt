@@ -1,0 +1,140 @@
+//! The words of memory: those of the image, until the first one of a page is set.
+
+ghost use Rattle.std.specs.Prelude.{◌≡◌, ℕ, ◌+◌, ◌*◌, ◌^◌, ◌<◌, ◌≢◌, ◌++◌, IfOk, OnOk, OnErr, slice_index_or};
+ghost use Rattle.rv_mem.specs.Directory.{number_of};
+ghost use Rattle.rv_mem.specs.Used.{no_word, used};
+ghost use Rattle.rv_mem.specs.Words.{ArePages, first_word};
+
+use crate::directory::{Directory, ENTRIES};
+use crate::page::{Page, list_used};
+use crate::word::Word;
+use rv_base::{NoMemory, TableEntry};
+use rv_elf::Image;
+use std::alloc::Global;
+
+/// The image, and the pages that were made over it, in order of making.
+#[derive(Drop)]
+pub struct Words<'a> {
+    image: Image<'a>,
+    directory: Directory,
+    pages: Vec<Page>,
+    ghost sound: { ArePages directory.entries.items pages.items },
+}
+
+impl<'a> Words<'a> {
+    ghost use Rattle.rv_mem.specs.Kept.{kept};
+
+    pub fn new(alloc: Global, image: Image<'a>) -> Words<'a>
+        ensures image { result.image ≡ image.entry }
+        ensures begun { (w : ℕ) → kept result w ≡ first_word image.entry w }
+    {
+        Words {
+            image,
+            directory: Directory::new(alloc),
+            pages: Vec::new(alloc),
+        }
+    }
+
+    /// Word `w` of memory.
+    pub fn get(&self, w: u32) -> Word
+        requires { w < 2 ^ 30 }
+        ensures { result ≡ kept self.now w }
+    {
+        match self.directory.find(w as usize / 16) {
+            Some(index) => self.pages[index].words[w as usize % 16],
+            None => Word {
+                value: self.image.word(w),
+                time: 0,
+            },
+        }
+    }
+
+    /// Sets word `w` of memory.
+    pub fn set(&mut self, w: u32, word: Word) -> Result<(), NoMemory>
+        requires { w < 2 ^ 30 }
+        ensures image { self.new.image ≡ self.old.image }
+        ensures ok { OnOk result (kept self.new w ≡ word) }
+        ensures err { OnErr result (kept self.new w ≡ kept self.old w) }
+        ensures others { (other : ℕ) → other < 2 ^ 30 → other ≢ w → kept self.new other ≡ kept self.old other }
+    {
+        let index = self.page_for(w as usize / 16)?;
+        self.pages[index].words[w as usize % 16] = word;
+        Ok(())
+    }
+
+    /// The place of a page, which is made if need be.
+    fn page_for(&mut self, page: usize) -> Result<usize, NoMemory>
+        requires { page < 2 ^ 26 }
+        ensures image { self.new.image ≡ self.old.image }
+        ensures made { IfOk result (λ index. number_of self.new.directory.entries.items page ≡ index + 1) }
+        ensures same { (w : ℕ) → w < 2 ^ 30 → kept self.new w ≡ kept self.old w }
+    {
+        match self.directory.find(page) {
+            Some(index) => Ok(index),
+            None => self.add_page(page),
+        }
+    }
+
+    /// Makes a page with the words of the image, and gives its place.
+    fn add_page(&mut self, page: usize) -> Result<usize, NoMemory>
+        requires in_memory { page < 2 ^ 26 }
+        requires absent { number_of self.old.directory.entries.items page ≡ 0 }
+        ensures image { self.new.image ≡ self.old.image }
+        ensures made { IfOk result (λ index. number_of self.new.directory.entries.items page ≡ index + 1) }
+        ensures same { (w : ℕ) → w < 2 ^ 30 → kept self.new w ≡ kept self.old w }
+    {
+        self.directory.reserve(page)?;
+        let index = self.pages.len();
+        let Ok(number) = u32::try_from(index + 1) else {
+            return Err(NoMemory);
+        };
+        match self.pages.push(first_page(&self.image, page)) {
+            Ok(()) => {}
+            Err(_) => return Err(NoMemory),
+        }
+        self.directory.enter(page, number);
+        Ok(index)
+    }
+
+    /// The words that were used, by rising number.
+    pub fn touched(&self) -> Result<Vec<TableEntry>, NoMemory>
+        ensures { IfOk result (λ entries. entries.items ≡ used (kept self.now) 0 (2 ^ 30)) }
+    {
+        let mut entries = Vec::new(*self.pages.allocator());
+        for leaf in 0..ENTRIES {
+            if self.directory.has_leaf(leaf) {
+                self.leaf_touched(leaf, &mut entries)?;
+            }
+        }
+        Ok(entries)
+    }
+
+    /// Adds the used words of a leaf's pages, by rising number.
+    fn leaf_touched(&self, leaf: usize, entries: &mut Vec<TableEntry>) -> Result<(), NoMemory>
+        requires { leaf < 8192 }
+        ensures { OnOk result (entries.new.items ≡ entries.old.items ++ used (kept self.now) (131072 * leaf) 131072) }
+    {
+        for place in 0..ENTRIES {
+            let page = ENTRIES * leaf + place;
+            if let Some(index) = self.directory.find(page) {
+                list_used(16 * page as u32, &self.pages[index].words, entries)?;
+            }
+        }
+        Ok(())
+    }
+}
+
+/// A page as the program begins.
+fn first_page(image: &Image<'_>, page: usize) -> Page
+    requires { page < 2 ^ 26 }
+    ensures { (k : ℕ) → k < 16 → slice_index_or result.words k no_word ≡ first_word image.now (16 * page + k) }
+{
+    let mut words = [Word { value: 0, time: 0 }; 16];
+    for i in 0..16 {
+        words[i] = Word {
+            value: image.word((16 * page + i) as u32),
+            time: 0,
+        };
+    }
+    Page { words }
+}

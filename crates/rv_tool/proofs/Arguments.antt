@@ -1,0 +1,56 @@
+-- Words as a list, from the pattern that they fit.
+use Rattle.std.proofs.Common.{◌≡◌, ◌≢◌, ◌⊎◌, inl, inr, ℕ, suc, ◌<◌, List, [], ◌∷◌, length, drop, get_or, refl, sym, ◌∙◌, ap, arith, Option, Some, None}
+use Rattle.std.proofs.Math.Seq.{drop-cons}
+use Rattle.rv_tool.specs.CommandLine.{make, make_of, make_words, number}
+
+-- the list from its element at j on
+from : {A : Type 0} (xs : List A) (j : ℕ) (a : A) → j < length xs → a ≡ get_or xs j a → drop j xs ≡ a ∷ drop (suc j) xs
+from xs j a lt is = drop-cons xs j a lt ∙ ap (λ y. y ∷ drop (suc j) xs) (sym is)
+
+ends : {A : Type 0} (xs : List A) (n : ℕ) → length xs ≡ n → drop n xs ≡ []
+ends [] n e = rw (sym e) refl
+ends (x ∷ xs) n e = rw (sym e) (ends xs (length xs) refl)
+
+pub six : {A : Type 0} (xs : List A) (a b c d e f : A) → length xs ≡ 6 → a ≡ get_or xs 0 a → b ≡ get_or xs 1 b → c ≡ get_or xs 2 c → d ≡ get_or xs 3 d → e ≡ get_or xs 4 e → f ≡ get_or xs 5 f
+    → xs ≡ a ∷ b ∷ c ∷ d ∷ e ∷ f ∷ []
+six xs a b c d e f len ha hb hc hd he hf =
+    from xs 0 a (omega arith) ha ∙ ap (λ r. a ∷ r)
+    (from xs 1 b (omega arith) hb ∙ ap (λ r. b ∷ r)
+    (from xs 2 c (omega arith) hc ∙ ap (λ r. c ∷ r)
+    (from xs 3 d (omega arith) hd ∙ ap (λ r. d ∷ r)
+    (from xs 4 e (omega arith) he ∙ ap (λ r. e ∷ r)
+    (from xs 5 f (omega arith) hf ∙ ap (λ r. f ∷ r) (ends xs 6 len))))))
+
+pub not_six : (xs : List (List ℕ)) → length xs ≢ 6 → make_of xs ≡ None
+not_six [] h = refl
+not_six (a ∷ []) h = refl
+not_six (a ∷ b ∷ []) h = refl
+not_six (a ∷ b ∷ c ∷ []) h = refl
+not_six (a ∷ b ∷ c ∷ d ∷ []) h = refl
+not_six (a ∷ b ∷ c ∷ d ∷ e ∷ []) h = refl
+not_six (a ∷ b ∷ c ∷ d ∷ e ∷ f ∷ []) h = absurd (h refl)
+not_six (a ∷ b ∷ c ∷ d ∷ e ∷ f ∷ g ∷ gs) h = refl
+
+-- six words whose last three are numbers in their ranges, or one of which isn't
+pub spelled : (xs : List (List ℕ)) (elf input target w s b : List ℕ) (workers shard budget : ℕ) → xs ≡ elf ∷ input ∷ target ∷ w ∷ s ∷ b ∷ []
+    → number 1 64 w ≡ Some workers → number 1 65536 s ≡ Some shard → number 1 8388608 b ≡ Some budget
+    → make_of xs ≡ Some (make (record { elf = elf; input = input; target = target; workers = workers; shard = shard; budget = budget }))
+spelled xs elf input target w s b workers shard budget list hw hs hb = ap make_of list ∙ rw (hw, hs, hb) refl
+
+no_workers : (elf input target : List ℕ) (s b : Option ℕ) → make_words elf input target None s b ≡ None
+no_workers elf input target s b = refl
+
+no_shard : (elf input target : List ℕ) (w b : Option ℕ) → make_words elf input target w None b ≡ None
+no_shard elf input target None b = refl
+no_shard elf input target (Some w) b = refl
+
+no_budget : (elf input target : List ℕ) (w s : Option ℕ) → make_words elf input target w s None ≡ None
+no_budget elf input target None s = refl
+no_budget elf input target (Some w) None = refl
+no_budget elf input target (Some w) (Some s) = refl
+
+pub misspelled : (xs : List (List ℕ)) (elf input target w s b : List ℕ) → xs ≡ elf ∷ input ∷ target ∷ w ∷ s ∷ b ∷ []
+    → (number 1 64 w ≡ None) ⊎ ((number 1 65536 s ≡ None) ⊎ (number 1 8388608 b ≡ None)) → make_of xs ≡ None
+misspelled xs elf input target w s b list (inl h) = ap make_of list ∙ rw h (no_workers elf input target (number 1 65536 s) (number 1 8388608 b))
+misspelled xs elf input target w s b list (inr (inl h)) = ap make_of list ∙ rw h (no_shard elf input target (number 1 64 w) (number 1 8388608 b))
+misspelled xs elf input target w s b list (inr (inr h)) = ap make_of list ∙ rw h (no_budget elf input target (number 1 64 w) (number 1 65536 s))
