@@ -5,3 +5,5 @@ pub mod Lookups
 pub mod HeaderLaws
 pub mod ReadLaws
 pub mod WriterLaws
+pub mod WrittenLaws
+pub mod PartLaws

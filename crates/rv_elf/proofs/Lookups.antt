@@ -1,14 +1,12 @@
 -- What the index gives at an address is the image's byte there.
-use Rattle.std.proofs.Common.{◌≡◌, ◌⊎◌, inl, inr, ℕ, ◌+◌, ◌-◌, ◌*◌, ◌<◌, ◌≤◌, ◌^◌, Option, Some, None, List, [], ◌∷◌, length, map, drop, get_or, slice_index, refl, sym, ◌∙◌, ap, subst, arith, nat_lt}
-use Rattle.std.specs.List.{list_any}
+use Rattle.std.proofs.Common.{◌≡◌, inl, inr, ℕ, ◌+◌, ◌-◌, ◌<◌, ◌≤◌, Option, Some, None, List, [], ◌∷◌, length, drop, get_or, slice_index, sym, ◌∙◌, ap, subst, arith, nat_lt}
 use Rattle.std.specs.Int.{w32, from_le_bytes}
 use Rattle.std.proofs.lemmas.Bool.{ltb-false, cases_order}
 use Rattle.std.proofs.lemmas.List.{get_or-drop}
-use Rattle.rv_spec.proofs.ChainCore.{In}
 use Rattle.rv_spec.proofs.Members.{all-in, all-of}
 use Rattle.rv_spec.proofs.ImageLaws.{image-is}
-use Rattle.rv_spec.specs.Words.{Memory, block_byte, byte, bytes_from, u32_at}
-use Rattle.rv_spec.specs.Elf.{Segment as Described, load_segments, first_fault, block_of, image, image_byte, TakesByteAt}
+use Rattle.rv_spec.specs.Words.{byte, bytes_from, u32_at}
+use Rattle.rv_spec.specs.Elf.{Segment as Described, load_segments, first_fault, image, image_byte, TakesByteAt}
 use Rattle.rv_elf.specs.declared.segment.Segment.{Segment}
 use Rattle.rv_elf.specs.Loaded.{loaded}
 use Rattle.rv_elf.specs.Segments.{described}

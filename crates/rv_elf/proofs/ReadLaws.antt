@@ -1,12 +1,11 @@
 -- What a pass over the headers of a file without the first fifteen faults keeps.
-use Rattle.std.proofs.Common.{◌≡◌, ℕ, ◌+◌, ◌%◌, ◌<◌, ◌≤◌, false, not, ◌==◌, nat_lt, List, length, map, get_or, Option, None, Some, sym, ◌∙◌, ap, subst, arith}
+use Rattle.std.proofs.Common.{◌≡◌, ℕ, ◌%◌, ◌<◌, ◌≤◌, false, not, nat_lt, List, length, map, get_or, None, Some, sym, ◌∙◌, ap, subst, arith}
 use Rattle.std.specs.List.{All}
 use Rattle.std.proofs.lemmas.Bool.{ltb-false, eq-eqb, ne_eqb}
 use Rattle.std.proofs.lemmas.List.{take_all, get_or-map, length-map}
 use Rattle.rv_spec.specs.Words.{u32_at}
 use Rattle.rv_spec.specs.Elf.{Segment as Described, headers, load_segments, some_overlap, first_fault}
 use Rattle.rv_elf.specs.declared.scan.Scan.{Scan}
-use Rattle.rv_elf.specs.declared.segment.Segment.{Segment}
 use Rattle.rv_elf.specs.Faults.{IsClear}
 use Rattle.rv_elf.specs.Segments.{described, IsScan}
 use Rattle.rv_elf.proofs.FaultLaws.{clear_more, fault_is, faultless}

@@ -1,15 +1,14 @@
 -- What is written is the definition's file.
-use Rattle.std.proofs.Common.{◌≡◌, ℕ, zero, suc, ◌+◌, ◌-◌, ◌*◌, ◌<◌, ◌≤◌, List, [], ◌∷◌, ◌++◌, length, take, drop, get_or, sum_by, refl, sym, ◌∙◌, ap, subst, arith, append_assoc, append-nil, drop-cons, add-one, length-drop, take-append-drop}
-use Rattle.std.specs.List.{flat_map}
-use Rattle.std.proofs.Common.{replicate}
+use Rattle.std.proofs.Common.{◌≡◌, ℕ, zero, suc, ◌+◌, ◌*◌, ◌<◌, ◌≤◌, List, [], ◌∷◌, ◌++◌, length, take, drop, get_or, replicate, sum_by, refl, sym, ◌∙◌, ap, subst, arith, append_assoc, append-nil, drop-cons, add-one, length-drop, take-append-drop}
+use Rattle.std.specs.List.{AllByRecursion, flat_map}
 use Rattle.std.proofs.lemmas.List.Sums.{sum_by-cons}
 use Rattle.std.specs.Int.{w16, to_le_bytes}
-use Rattle.std.proofs.lemmas.List.{length-take-le, take_all}
-use Rattle.rv_spec.specs.Elf.{Part as PartBytes, part_headers, elf_file}
+use Rattle.std.proofs.lemmas.List.{length-take-le}
+use Rattle.rv_spec.specs.Elf.{part_headers, elf_file}
 use Rattle.rv_elf.specs.declared.writer.Part.{Part}
-use Rattle.rv_elf.specs.Written.{with_bytes, elf_header, table_of, words}
+use Rattle.rv_elf.specs.Written.{with_bytes, AreWords, elf_header, table_of, words}
 
-abbrev lens : List Part → ℕ
+abbrev pub lens : List Part → ℕ
 lens ps = sum_by (λ p. p.len) ps
 
 pub length-with_bytes : (ps : List Part) (bs : List ℕ) → length (with_bytes ps bs) ≡ length ps
@@ -66,6 +65,15 @@ module _ (ps : List Part) (i : ℕ) (d : Part) (h : i < length ps) where
       ∙ append_assoc before (block o p p.len) (table_of (o + p.len) (drop (i + 1) ps))
       ∙ ap (λ l. before ++ table_of o l) (sym next)
       ∙ e
+
+-- one more part whose numbers have 32 bits
+pub ranges-next : (ps : List Part) (i : ℕ) (d : Part) → AllByRecursion AreWords (take i ps) → AreWords (get_or ps i d) → AllByRecursion AreWords (take (i + 1) ps)
+ranges-next ps i d before new = subst (λ k. AllByRecursion AreWords (take k ps)) (sym (add-one i)) (one_more ps i before new)
+  where
+    one_more : (ps : List Part) (i : ℕ) → AllByRecursion AreWords (take i ps) → AreWords (get_or ps i d) → AllByRecursion AreWords (take (suc i) ps)
+    one_more [] i before new = tt
+    one_more (p ∷ ps) zero before new = (new, tt)
+    one_more (p ∷ ps) (suc i) before new = (before.0, one_more ps i before.1 new)
 
 -- behind the last part nothing is left
 pub table-done : (ps : List Part) (i o : ℕ) (before all : List ℕ) → length ps ≤ i → before ++ table_of o (drop i ps) ≡ all → before ≡ all

@@ -1,8 +1,7 @@
 -- What is written as an executable.
-use Rattle.std.specs.Prelude.{◌≡◌, ℕ, ◌+◌, ◌-◌, ◌<◌, ◌≤◌, List, [], ◌∷◌, ◌++◌, length, replicate, take, drop, map, slice_index}
+use Rattle.std.specs.Prelude.{◌≡◌, ℕ, ◌+◌, ◌-◌, ◌^◌, ◌<◌, ◌≤◌, List, [], ◌∷◌, ◌++◌, length, replicate, take, drop, map, slice_index}
 use Rattle.std.specs.List.{AllByRecursion, flat_map}
 use Rattle.std.specs.Int.{w16, w32, to_le_bytes}
-use Rattle.rv_spec.specs.Words.{Block}
 use Rattle.rv_spec.specs.Elf.{Segment, Image, Part as PartBytes, image_byte}
 use Rattle.rv_elf.specs.declared.writer.Part.{Part}
 
@@ -10,6 +9,10 @@ use Rattle.rv_elf.specs.declared.writer.Part.{Part}
 abbrev pub with_bytes : List Part → List ℕ → List PartBytes
 with_bytes [] bytes = []
 with_bytes (p ∷ ps) bytes = record { address = p.addr; bytes = take p.len bytes; size = p.size } ∷ with_bytes ps (drop p.len bytes)
+
+-- a part's numbers have 32 bits
+abbrev pub AreWords : Part → Type 0
+AreWords p = (p.addr < 2 ^ 32) × (p.size < 2 ^ 32)
 
 -- a part as a segment of memory
 abbrev pub segment_of : Part → Segment

@@ -156,3 +156,29 @@ fn reads_words(rt: HostRuntime) -> Result<(), Fail> {
     assert_eq!(rt; read(file.as_slice())?.word(0x4000), 0x0513_CC00);
     Ok(())
 }
+
+#[test]
+fn tells_a_fault_by_its_name(rt: HostRuntime) -> Result<(), Fail> {
+    for (fault, name) in [
+        (ElfFault::Short, "Short"),
+        (ElfFault::Machine, "Machine"),
+        (ElfFault::SegmentWrap, "SegmentWrap"),
+        (ElfFault::Entry, "Entry"),
+    ] {
+        assert_eq!(rt; fault.to_string(rt.alloc())?.as_str(), name);
+    }
+    Ok(())
+}
+
+#[test]
+fn reads_the_largest_file(rt: HostRuntime) -> Result<(), Fail> {
+    let behind = vec![in rt.alloc(); 0x5A; 67_108_780]?;
+    let whole = [PT_LOAD, 0, 0, 67_108_864, 67_108_864];
+    let file = file_of(rt.alloc(), 0, &[whole], behind.as_slice())?;
+    assert!(rt; file.len() == 67_108_864);
+    let image = read(file.as_slice())?;
+    assert_eq!(rt; image.word(0), 0x464C_457F);
+    assert_eq!(rt; image.word(0x00FF_FFFF), 0x5A5A_5A5A);
+    assert_eq!(rt; image.word(0x0100_0000), 0);
+    Ok(())
+}

@@ -1,9 +1,9 @@
 //! From segments to a file.
 
-ghost use Rattle.std.specs.Prelude.{◌≡◌, ℕ, ◌+◌, ◌*◌, ◌%◌, ◌^◌, ◌<◌, ◌≤◌, ◌++◌, false, None, length, map, sum_by, IfOk};
+ghost use Rattle.std.specs.Prelude.{◌≡◌, ℕ, ◌+◌, ◌*◌, ◌%◌, ◌^◌, ◌<◌, ◌≤◌, ◌++◌, false, List, [], ◌∷◌, None, length, map, sum_by, IfOk};
 ghost use Rattle.std.specs.List.{AllByRecursion};
 ghost use Rattle.rv_spec.specs.Elf.{elf_file, first_fault, image, some_overlap};
-ghost use Rattle.rv_elf.specs.Written.{with_bytes, segment_of, image_of_parts, elf_header, table_of, words, HoldsParts};
+ghost use Rattle.rv_elf.specs.Written.{with_bytes, segment_of, image_of_parts, AreWords, elf_header, table_of, words, HoldsParts};
 
 use crate::segment::{HEADER_SIZE, PT_LOAD};
 use rv_base::NoMemory;
@@ -28,8 +28,9 @@ pub struct Part {
     pub size: u32,
 }
 
-/// The executable with that entry and these segments. `bytes` has the bytes of the first part, then those of
-/// the next and so on, `len` bytes for each.
+/// The executable with that entry and these segments, of 52 bytes, 32 for each part, and `bytes`: the bytes of
+/// the first part, then those of the next and so on, `len` bytes for each. Reading it gives the entry, each
+/// part's bytes from its address on, and 0 elsewhere.
 pub fn write(alloc: Global, entry: u32, parts: &[Part], bytes: &[u8]) -> Result<Vec<u8>, NoMemory>
     requires few { length parts.now ≤ 64 }
     requires aligned { entry % 4 ≡ 0 }
@@ -38,7 +39,11 @@ pub fn write(alloc: Global, entry: u32, parts: &[Part], bytes: &[u8]) -> Result<
     requires in_memory { AllByRecursion (λ p. p.addr + p.size ≤ 2 ^ 32) parts.now }
     requires apart { some_overlap (map segment_of parts.now) ≡ false }
     requires within_limit { 52 + 32 * length parts.now + length bytes.now ≤ 67108864 }
-    ensures { IfOk result (λ v. v.items ≡ elf_file entry (with_bytes parts.now bytes.now)) }
+    ensures file { IfOk result (λ v. v.items ≡ elf_file entry (with_bytes parts.now bytes.now)) }
+    ensures size { IfOk result (λ v. length v.items ≡ 52 + 32 * length parts.now + length bytes.now) }
+    ensures faultless { IfOk result (λ v. first_fault v.items ≡ None) }
+    ensures image { IfOk result (λ v. image 1 v.items ≡ image_of_parts entry (with_bytes parts.now bytes.now)) }
+    ensures held { IfOk result (λ v. HoldsParts (with_bytes parts.now bytes.now) (image 1 v.items)) }
 {
     match write_all(alloc, entry, parts, bytes) {
         Ok(file) => Ok(file),
@@ -50,7 +55,8 @@ fn write_all(alloc: Global, entry: u32, parts: &[Part], bytes: &[u8]) -> Result<
     requires few { length parts.now ≤ 64 }
     requires whole { sum_by (λ p. p.len) parts.now ≡ length bytes.now }
     requires within_limit { 52 + 32 * length parts.now + length bytes.now ≤ 67108864 }
-    ensures { IfOk result (λ v. v.items ≡ elf_header entry (length parts.now) ++ table_of (52 + 32 * length parts.now) parts.now ++ bytes.now) }
+    ensures file { IfOk result (λ v. v.items ≡ elf_header entry (length parts.now) ++ table_of (52 + 32 * length parts.now) parts.now ++ bytes.now) }
+    ensures ranges { IfOk result (λ _. AllByRecursion AreWords parts.now) }
 {
     let table_end = 52 + HEADER_SIZE * parts.len();
     let mut file = Vec::with_capacity(alloc, table_end + bytes.len())?;
@@ -78,19 +84,35 @@ pub(crate) fn put_header(file: &mut Vec<u8>, entry: u32, count: u16) -> Result<(
 /// Appends a program header for each part, where the first part's bytes begin at that offset of the file.
 fn put_table(file: &mut Vec<u8>, mut offset: u32, parts: &[Part]) -> Result<(), AllocError>
     requires { offset + sum_by (λ p. p.len) parts.now < 2 ^ 32 }
-    ensures { IfOk result (λ _. file.new.items ≡ file.old.items ++ table_of offset parts.now) }
+    ensures table { IfOk result (λ _. file.new.items ≡ file.old.items ++ table_of offset parts.now) }
+    ensures ranges { IfOk result (λ _. AllByRecursion AreWords parts.now) }
 {
     for part in parts {
-        // p_type, p_offset, p_vaddr, p_paddr, p_filesz, p_memsz, p_flags and p_align
-        put_words(
-            file,
-            &[
-                PT_LOAD, offset, part.addr, part.addr, part.len, part.size, ALL_FLAGS, ALIGN,
-            ],
-        )?;
+        put_segment(file, offset, part.addr, part.len, part.size)?;
         offset += part.len;
     }
     Ok(())
+}
+
+/// Appends the program header of a segment, from its offset in the file, its address, and its bytes in the
+/// file and in memory.
+fn put_segment(
+    file: &mut Vec<u8>,
+    offset: u32,
+    address: u32,
+    len: u32,
+    size: u32,
+) -> Result<(), AllocError>
+    ensures header { IfOk result (λ _. file.new.items ≡ file.old.items ++ words (1 ∷ offset ∷ address ∷ address ∷ len ∷ size ∷ 7 ∷ 4 ∷ [])) }
+    ensures ranges { (address < 2 ^ 32) × (size < 2 ^ 32) }
+{
+    // p_type, p_offset, p_vaddr, p_paddr, p_filesz, p_memsz, p_flags and p_align
+    put_words(
+        file,
+        &[
+            PT_LOAD, offset, address, address, len, size, ALL_FLAGS, ALIGN,
+        ],
+    )
 }
 
 /// Appends numbers of four bytes.

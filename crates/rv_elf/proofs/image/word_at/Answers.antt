@@ -1,4 +1,4 @@
-use Rattle.std.proofs.Common.{◌≡◌, ◌+◌, ◌<◌, ◌≤◌, ℕ, Option, sym, ◌∙◌, ap, arith}
+use Rattle.std.proofs.Common.{◌≡◌, ◌+◌, ◌<◌, ℕ, sym, ◌∙◌, ap, arith}
 use Rattle.rv_elf.proofs.IndexLaws.{rises}
 use Rattle.rv_elf.proofs.Lookups.{found_in_file, found_behind, found_nothing, loads_byte, word_is, word_in_file, one_after_another}
 use Rattle.rv_elf.proofs.image.word_at.Goals as goal

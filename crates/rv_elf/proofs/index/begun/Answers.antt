@@ -1,5 +1,5 @@
 use Rattle.std.proofs.lemmas.Fn.{always_returns_same}
-use Rattle.std.proofs.Common.{rules, of_calls, arith, nat_le, ℕ, Bool, ◌≤◌, get_or}
+use Rattle.std.proofs.Common.{rules, of_calls, arith, nat_le, Bool, get_or}
 use Rattle.std.proofs.lemmas.Bool.{leb-true, leb-false, le-leb}
 use Rattle.rv_elf.specs.declared.segment.Segment.{Segment}
 use Rattle.rv_elf.proofs.index.begun.Goals as goal

@@ -1,6 +1,5 @@
-use Rattle.std.proofs.Common.{◌≡◌, length, map, take, arith, subst, sym, ◌∙◌, ap}
-use Rattle.rv_elf.specs.Segments.{described}
-use Rattle.rv_elf.specs.Index.{IsIndex, AreBegun}
+use Rattle.std.proofs.Common.{length, arith, subst, ◌∙◌, ap}
+use Rattle.rv_elf.specs.Index.{AreBegun}
 use Rattle.rv_elf.proofs.IndexLaws.{placed, left_out}
 use Rattle.rv_elf.proofs.index.by_address.Goals as goal
 use Rattle.rv_elf.proofs.index.by_address.Goals.{then-segment-gt0, else-segment-gt0}

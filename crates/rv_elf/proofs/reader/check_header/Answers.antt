@@ -1,6 +1,5 @@
-use Rattle.std.proofs.Common.{◌≡◌, inl, inr, sym, ◌∙◌, true, false}
-use Rattle.rv_elf.specs.Faults.{IsClear}
-use Rattle.rv_elf.proofs.HeaderLaws.{has_magic, clear-1, clear-2, clear-3, clear-4, clear-5, clear-6, clear-7, clear-8, clear-9, fault-1, fault-2, fault-3, fault-4, fault-5, fault-6, fault-7, fault-8, fault-9}
+use Rattle.std.proofs.Common.{inl, inr, sym, ◌∙◌}
+use Rattle.rv_elf.proofs.HeaderLaws.{clear-1, clear-2, clear-3, clear-4, clear-5, clear-6, clear-7, clear-8, clear-9, fault-1, fault-2, fault-3, fault-4, fault-5, fault-6, fault-7, fault-8, fault-9}
 use Rattle.rv_elf.proofs.reader.check_header.Goals as goal
 use Rattle.rv_elf.proofs.reader.check_header.Goals.{then-file-ne1-3-via-then-file-ne1-3, then-file-ne1-3-via-else-file-ne1-3+then-get32-ne1}
 

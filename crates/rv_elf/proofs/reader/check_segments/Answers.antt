@@ -1,7 +1,7 @@
-use Rattle.std.proofs.Common.{◌≡◌, List, ℕ, length, map, sym, ◌∙◌, ap, true, false, Bool}
-use Rattle.rv_spec.specs.Elf.{headers, some_overlap}
+use Rattle.std.proofs.Common.{map, sym, ◌∙◌, ap}
+use Rattle.rv_spec.specs.Elf.{some_overlap}
 use Rattle.rv_elf.specs.Faults.{IsClear}
-use Rattle.rv_elf.specs.Segments.{described, IsScan}
+use Rattle.rv_elf.specs.Segments.{described}
 use Rattle.rv_elf.proofs.ScanLaws.{clear-10, clear-11, clear-12, clear-13, clear-14, clear-15, fault-10, fault-11, fault-12, fault-13, fault-14, fault-15}
 use Rattle.rv_elf.proofs.reader.check_segments.Goals as goal
 

@@ -1,12 +1,9 @@
-use Rattle.std.proofs.Common.{◌≡◌, ◌%◌, ◌≤◌, List, ap, sym, ◌∙◌, subst, arith, map, None, true}
+use Rattle.std.proofs.Common.{◌%◌, ◌≤◌, ap, sym, ◌∙◌, subst, arith, map}
 use Rattle.std.specs.List.{All}
-use Rattle.std.proofs.lemmas.Bool.{ne_eqb}
-use Rattle.rv_spec.specs.Elf.{load_segments, some_overlap, first_fault, image, IsImage}
-use Rattle.rv_spec.specs.Words.{u32_at}
+use Rattle.rv_spec.specs.Elf.{some_overlap, IsImage}
 use Rattle.rv_spec.proofs.ImageLaws.{image-is}
 use Rattle.rv_elf.specs.Index.{IsIndex}
 use Rattle.rv_elf.specs.Segments.{described}
-use Rattle.rv_elf.proofs.FaultLaws.{fault_is}
 use Rattle.rv_elf.proofs.HeaderLaws.{whole_header, whole_table}
 use Rattle.rv_elf.proofs.ReadLaws.{misplaced, without_fault, kept_loads, kept_apart, kept_fit}
 use Rattle.rv_elf.proofs.reader.read.Goals as goal

@@ -1,8 +1,8 @@
-use Rattle.std.proofs.Common.{true, List, sym, ◌∙◌, ap, length, get_or, take, drop, map, ◌||◌, ◌-◌}
+use Rattle.std.proofs.Common.{sym, ◌∙◌, ap, length, take, drop, map, ◌||◌, ◌-◌}
 use Rattle.std.proofs.lemmas.Bool.{or_left}
 use Rattle.rv_spec.specs.Elf.{some_overlap}
 use Rattle.rv_elf.specs.Segments.{described}
-use Rattle.rv_elf.proofs.ScanLaws.{meets_any, overlap-first}
+use Rattle.rv_elf.proofs.ScanLaws.{overlap-first}
 use Rattle.rv_elf.proofs.segment.+some_overlap.Goals as goal
 
 pub returns-then-overlaps_any : goal.returns-then-overlaps_any

@@ -1,4 +1,4 @@
-use Rattle.std.proofs.Common.{ℕ, List, ◌∷◌, [], ◌++◌, replicate, ap, ◌∙◌}
+use Rattle.std.proofs.Common.{◌∷◌, [], ◌++◌, replicate, ap, ◌∙◌}
 use Rattle.std.specs.Int.{w16, to_le_bytes}
 use Rattle.rv_elf.specs.Written.{words}
 use Rattle.rv_elf.proofs.WriterLaws.{header-is}

@@ -1,4 +1,4 @@
-use Rattle.std.proofs.Common.{◌≡◌, refl, ap, ◌∙◌}
+use Rattle.std.proofs.Common.{refl, ap}
 use Rattle.rv_elf.proofs.ScanLaws.{scan-load, scan-other}
 use Rattle.rv_elf.proofs.scan.Scan.note.Goals as goal
 
