@@ -1,5 +1,7 @@
 //! Commands over files in memory: statuses, lines, and what the files hold afterwards.
 
+ghost use Rattle.std.specs.Prelude.{◌<◌};
+
 use crate::{needs_team, tool_one};
 use rv_host::{MemShelf, MemSink};
 use std::process::Abort;
@@ -240,7 +242,7 @@ fn calls_that_fail(rt: HostRuntime) -> Result<(), Fail> {
     )?;
     let record = shelf.file("record").ok_or("no record")?;
     assert_eq!(rt; record.len(), 183);
-    for (bytes, line) in record[..144].chunks(48).zip(RECORD) {
+    for (bytes, line) in record.chunks(48).zip(RECORD).take(3) {
         assert_eq!(rt; hex::encode(rt.alloc(), bytes)?.as_str(), line);
     }
     shelf.limit_read(1);
