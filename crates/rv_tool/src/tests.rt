@@ -45,7 +45,16 @@ fn shelf_with(rt: &HostRuntime, elf: &[u8]) -> Result<MemShelf, Fail> {
     Ok(shelf)
 }
 
-/// Runs a command line and gives its status, after comparing what it prints.
+/// The words of a line.
+fn words_of<R: AllocGlobal>(rt: &R, line: &str) -> Result<Vec<String>, Fail> {
+    let mut words = Vec::new(rt.alloc());
+    for word in line.split_whitespace() {
+        words.push(String::from_str(rt.alloc(), word)?)?;
+    }
+    Ok(words)
+}
+
+/// Runs a command line on one thread, and compares its status and what it prints.
 fn expect<R: Abort + AllocGlobal>(
     rt: &R,
     line: &str,
@@ -53,10 +62,7 @@ fn expect<R: Abort + AllocGlobal>(
     status: u8,
     printed: &str,
 ) -> Result<(), Fail> {
-    let mut words = Vec::new(rt.alloc());
-    for word in line.split_whitespace() {
-        words.push(String::from_str(rt.alloc(), word)?)?;
-    }
+    let words = words_of(rt, line)?;
     assert!(rt; !needs_team(&words), "{line}");
     let mut sink = MemSink::new(rt.alloc());
     assert_eq!(rt;
@@ -256,15 +262,15 @@ fn calls_that_fail(rt: HostRuntime) -> Result<(), Fail> {
 }
 
 #[test]
-fn workers_come_before_files_and_sizes_before_faults(rt: HostRuntime) -> Result<(), Fail> {
+fn a_second_worker_asks_for_a_team(rt: HostRuntime) -> Result<(), Fail> {
+    assert!(rt; needs_team(&words_of(&rt, "make elf input record 2 3 3")?));
+    assert!(rt; !needs_team(&words_of(&rt, "make elf input record 65 3 3")?));
+    Ok(())
+}
+
+#[test]
+fn sizes_come_before_faults(rt: HostRuntime) -> Result<(), Fail> {
     let mut shelf = MemShelf::new(rt.alloc());
-    expect(
-        &rt,
-        "make absent absent record 2 3 3",
-        &mut shelf,
-        9,
-        "fault notbuilt\n",
-    )?;
     shelf.put("elf", b"")?;
     shelf.put("input", &vec![in rt.alloc(); 0u8; 16_777_217]?)?;
     expect(
