@@ -24,6 +24,7 @@ impl Bytes {
         Bytes { bytes: list }
     }
 
+    /// The bytes.
     pub fn list(&self) -> &[u8]
         ensures { result.now ≡ self.now }
     {
@@ -51,6 +52,7 @@ impl Text {
         Text { text }
     }
 
+    /// The text.
     pub fn text(&self) -> &str
         ensures { result.now ≡ self.now }
     {

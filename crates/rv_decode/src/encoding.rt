@@ -52,6 +52,7 @@ fn word_of(instr: &Instr) -> u32
     }
 }
 
+/// A word of the R-type from its fields.
 pub fn r_type(opcode: u32, rd: u8, funct3: u32, rs1: u8, rs2: u8, funct7: u32) -> u32
     requires opcode { opcode < 2 ^ 7 }
     requires rd { IsRegister rd }

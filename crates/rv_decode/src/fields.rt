@@ -4,54 +4,63 @@ ghost use Rattle.std.specs.Prelude.{◌≡◌, ◌-◌, ◌^◌, ◌<◌, ◌≤
 ghost use Rattle.rv_spec.specs.Decode as isa;
 ghost use Rattle.rv_spec.specs.Words.{bits_of, sign_extend};
 
+/// Bits 0 to 6.
 pub fn opcode(word: u32) -> u32
     ensures { result ≡ isa.opcode word }
 {
     word % 0x80
 }
 
+/// The destination register, bits 7 to 11.
 pub fn rd(word: u32) -> u8
     ensures { result ≡ isa.rd word }
 {
     register(word, 7)
 }
 
+/// Bits 12 to 14.
 pub fn funct3(word: u32) -> u32
     ensures { result ≡ isa.funct3 word }
 {
     bits(word, 12, 3)
 }
 
+/// The first source register, bits 15 to 19.
 pub fn rs1(word: u32) -> u8
     ensures { result ≡ isa.rs1 word }
 {
     register(word, 15)
 }
 
+/// The second source register, bits 20 to 24.
 pub fn rs2(word: u32) -> u8
     ensures { result ≡ isa.rs2 word }
 {
     register(word, 20)
 }
 
+/// Bits 25 to 31.
 pub fn funct7(word: u32) -> u32
     ensures { result ≡ isa.funct7 word }
 {
     bits(word, 25, 7)
 }
 
+/// The immediate of an I-type word, -2,048 to 2,047.
 pub fn imm_i(word: u32) -> i32
     ensures { result ≡ isa.imm_i word }
 {
     sign_extended(bits(word, 20, 12), 12)
 }
 
+/// The immediate of an S-type word, -2,048 to 2,047.
 pub fn imm_s(word: u32) -> i32
     ensures { result ≡ isa.imm_s word }
 {
     sign_extended(bits(word, 25, 7) * 0x20 + bits(word, 7, 5), 12)
 }
 
+/// The offset of a B-type word in bytes: even, -4,096 to 4,094.
 pub fn imm_b(word: u32) -> i32
     ensures { result ≡ isa.imm_b word }
 {
@@ -59,12 +68,14 @@ pub fn imm_b(word: u32) -> i32
     sign_extended(upper + bits(word, 25, 6) * 0x20 + bits(word, 8, 4) * 2, 13)
 }
 
+/// The immediate of a U-type word: a multiple of 4,096.
 pub fn imm_u(word: u32) -> u32
     ensures { result ≡ isa.imm_u word }
 {
     bits(word, 12, 20) * 0x1000
 }
 
+/// The offset of a J-type word in bytes: even, -1,048,576 to 1,048,574.
 pub fn imm_j(word: u32) -> i32
     ensures { result ≡ isa.imm_j word }
 {

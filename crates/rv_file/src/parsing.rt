@@ -206,6 +206,7 @@ fn entry_before_end(file: &[u8], behind: usize) -> TableEntry
 }
 
 impl<'a> Parsed<'a> {
+    /// The header.
     pub fn header(&self) -> Header
         ensures { result ≡ self.now.header }
     {

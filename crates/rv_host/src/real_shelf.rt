@@ -19,6 +19,7 @@ pub struct RealShelf<R: Files> {
 }
 
 impl<R: Files> RealShelf<R> {
+    /// A shelf over the system's files that has met no fault.
     pub fn new(rt: R) -> RealShelf<R>
         ensures reads { result.read_faults ≡ 0 }
         ensures writes { result.write_faults ≡ 0 }

@@ -15,6 +15,7 @@ pub struct RealSink<R: Print> {
 }
 
 impl<R: Print> RealSink<R> {
+    /// A sink over standard output that has met no fault.
     pub fn new(rt: R) -> RealSink<R>
         ensures { result.faults ≡ 0 }
     {

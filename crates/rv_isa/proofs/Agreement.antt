@@ -17,7 +17,7 @@ use Rattle.rv_spec.specs.Trace.{access}
 use Rattle.rv_spec.specs.Expected.{Expected, touch, pc_plus_4, expected_instr, expected_any, expected}
 use Rattle.rv_spec.specs.RowRules.{seen}
 use Rattle.rv_spec.specs.Agreement.{IsState, GoesAs, touch_of, StepsAgree}
-use Rattle.rv_spec.proofs.AgreementLaws.{seen-in}
+use Rattle.rv_spec.proofs.OldValues.{seen-in}
 use Rattle.rv_spec.proofs.Members.{all-of, all-in}
 use Rattle.rv_spec.proofs.MemoryLaws.{word-aligned}
 use Rattle.rv_isa.proofs.Uses.{in_slot, Sees, Follows, made, goes-on}

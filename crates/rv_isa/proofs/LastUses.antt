@@ -195,4 +195,4 @@ run-holds i input zero c = inl ((λ u m. absurd m), refl)
 run-holds i input (suc n) c = step-holds (initial_value i) input (run i input n) n c (history i input n) (run-earlier i input n) (run-holds i input n c)
 
 pub holds-last-uses : (i : Image) (input : List ℕ) (n : ℕ) → HoldsLastUses i input n
-holds-last-uses i input n c is = held (initial_value i) (history i input n) c (value (run i input n) c) (time_of n 0) (run-holds i input n c)
+holds-last-uses i input n c = held (initial_value i) (history i input n) c (value (run i input n) c) (time_of n 0) (run-holds i input n c)

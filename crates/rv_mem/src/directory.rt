@@ -18,6 +18,7 @@ pub struct Directory {
 }
 
 impl Directory {
+    /// A directory of no page.
     pub fn new(alloc: Global) -> Directory
         ensures { (page : ℕ) → number_of result.entries.items page ≡ 0 }
     {

@@ -24,6 +24,7 @@ pub struct Words<'a> {
 impl<'a> Words<'a> {
     ghost use Rattle.rv_mem.specs.Kept.{kept};
 
+    /// The words of an image, none of which was set.
     pub fn new(alloc: Global, image: Image<'a>) -> Words<'a>
         ensures image { result.image ≡ image.entry }
         ensures begun { (w : ℕ) → kept result w ≡ first_word image.entry w }

@@ -1,12 +1,12 @@
 -- The expected step of a row is the machine's own step, where the row's old values are those that the machine's state holds.
-use Rattle.std.specs.Prelude.{◌≡◌, ℕ, ◌+◌, ◌%◌, ◌^◌, ◌<◌, ◌≤◌, List, [], ◌++◌, length, map, Some, None, IsTrue}
+use Rattle.std.specs.Prelude.{◌≡◌, ℕ, ◌+◌, ◌%◌, ◌^◌, ◌<◌, ◌≤◌, List, [], ◌++◌, length, map, Some, None}
 use Rattle.std.specs.List.{AllByRecursion}
 use Rattle.rv_base.specs.declared.record.Touch.{Touch}
 use Rattle.rv_base.specs.declared.record.Tuple.{Tuple}
 use Rattle.rv_spec.specs.Words.{byte, AreBytes}
 use Rattle.rv_spec.specs.Elf.{Image}
 use Rattle.rv_spec.specs.Run.{run}
-use Rattle.rv_spec.specs.Cells.{is_cell, value, initial_value, time_of}
+use Rattle.rv_spec.specs.Cells.{value, initial_value, time_of}
 use Rattle.rv_spec.specs.Chain.{value_before}
 use Rattle.rv_spec.specs.Step.{State, Turn, Next, Ends, step}
 use Rattle.rv_spec.specs.Touches.{Visit, touches}
@@ -43,7 +43,7 @@ StepsAgree = (input : List ℕ) (s : State) (before : List Tuple) (k : ℕ) → 
 -- what a state of a run holds in a cell is what the last use left there, or the initial value
 abbrev pub HoldsLastUses : Image → List ℕ → ℕ → Type 0
 HoldsLastUses i input n =
-    (c : ℕ) → IsTrue (is_cell i.version c) → value (run i input n) c ≡ value_before (initial_value i) (history i input n) c (time_of n 0)
+    (c : ℕ) → value (run i input n) c ≡ value_before (initial_value i) (history i input n) c (time_of n 0)
 
 -- what a file without a fault loads
 pub record IsProgram (i : Image) : Type 0 where
