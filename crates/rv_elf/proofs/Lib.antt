@@ -7,3 +7,4 @@ pub mod ReadLaws
 pub mod WriterLaws
 pub mod WrittenLaws
 pub mod PartLaws
+pub mod ProgramLaws

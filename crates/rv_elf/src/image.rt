@@ -1,9 +1,10 @@
 //! What an executable loads.
 
-ghost use Rattle.std.specs.Prelude.{◌≡◌, ◌+◌, ◌*◌, ◌%◌, ◌^◌, ◌<◌, ◌≤◌, None};
+ghost use Rattle.std.specs.Prelude.{◌≡◌, ℕ, ◌+◌, ◌*◌, ◌%◌, ◌^◌, ◌<◌, ◌≤◌, None};
 ghost use Rattle.std.specs.Int.{w32, from_le_bytes, IsInRange};
 ghost use Rattle.rv_spec.specs.Words.{word, bytes_from, u32_at};
 ghost use Rattle.rv_spec.specs.Elf.{Image as ImageOf, image, image_byte, first_fault, load_segments};
+ghost use Rattle.rv_spec.specs.Agreement.{IsProgram};
 ghost use Rattle.rv_elf.specs.Index.{IsIndex};
 ghost use Rattle.rv_elf.specs.Loaded.{loaded};
 
@@ -85,10 +86,12 @@ impl<'a> Image<'a> {
         }
     }
 
-    /// The same image.
+    /// The same image. It is a program: its entry is a multiple of 4 below 2^32, and its bytes are bytes.
     pub fn copy(&self) -> Image<'a>
-        ensures { result ≡ self.now }
+        ensures same { result ≡ self.now }
+        ensures program { IsProgram self.now }
     {
+        loads_program(self.file);
         let mut index = ArrayVec::new();
         if index.try_extend_from_slice(self.index.as_slice()).is_err() {
             unreachable!();
@@ -110,6 +113,12 @@ impl<'a> Image<'a> {
         word_at(self.file, self.index.as_slice(), 4 * w)
     }
 }
+
+/// What a file without a fault loads has the ranges of a program, since the file is bytes.
+fn loads_program(file: &[u8])
+    requires { first_fault file.now ≡ None }
+    ensures { (version : ℕ) → IsProgram (image version file.now) }
+{}
 
 /// The four bytes from an address on. One search serves where they lie in one segment, or in none.
 fn word_at(file: &[u8], index: &[Segment], address: u32) -> u32

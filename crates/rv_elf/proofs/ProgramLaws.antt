@@ -1,0 +1,43 @@
+-- What a file without a fault loads has the ranges of a program.
+use Rattle.std.proofs.Common.{◌≡◌, ℕ, zero, suc, ◌+◌, ◌*◌, ◌%◌, ◌^◌, ◌<◌, List, [], ◌∷◌, get_or, take, drop, map, None, sym, arith}
+use Rattle.std.specs.List.{AllByRecursion}
+use Rattle.std.specs.Int.{w32, from_le_bytes}
+use Rattle.std.proofs.lemmas.List.{get_or-drop}
+use Rattle.rv_base.specs.LittleEndian.{u32_at, number_at}
+use Rattle.rv_spec.specs.Words.{AreBytes}
+use Rattle.rv_spec.specs.Elf.{Segment, first_fault, load_segments, block_of, image}
+use Rattle.rv_spec.specs.Agreement.{IsProgram}
+use Rattle.rv_elf.proofs.HeaderLaws.{entry_aligned}
+
+pub bytes-are : (bytes : List ℕ) → ((i : ℕ) → get_or bytes i 0 < 2 ^ 8) → AreBytes bytes
+bytes-are [] fits = tt
+bytes-are (b ∷ bytes) fits = (fits 0, bytes-are bytes (λ i. fits (suc i)))
+
+byte-fits : (bytes : List ℕ) (i : ℕ) → AreBytes bytes → get_or bytes i 0 < 2 ^ 8
+byte-fits [] i h = omega arith
+byte-fits (b ∷ bytes) zero h = h.0
+byte-fits (b ∷ bytes) (suc i) h = byte-fits bytes i h.1
+
+take-bytes : (k : ℕ) (xs : List ℕ) → AreBytes xs → AreBytes (take k xs)
+take-bytes zero xs h = tt
+take-bytes (suc k) [] h = tt
+take-bytes (suc k) (x ∷ xs) h = (h.0, take-bytes k xs h.1)
+
+drop-bytes : (k : ℕ) (xs : List ℕ) → AreBytes xs → AreBytes (drop k xs)
+drop-bytes zero xs h = h
+drop-bytes (suc k) [] h = tt
+drop-bytes (suc k) (x ∷ xs) h = drop-bytes k xs h.1
+
+number-fits : (bytes : List ℕ) → AreBytes bytes → from_le_bytes w32 bytes < 2 ^ 32
+number-fits bytes h = omega (arith, byte-fits bytes 0 h, byte-fits bytes 1 h, byte-fits bytes 2 h, byte-fits bytes 3 h)
+
+blocks-are : (file : List ℕ) (ss : List Segment) → AreBytes file → AllByRecursion (λ b. AreBytes b.bytes) (map (block_of file) ss)
+blocks-are file [] h = tt
+blocks-are file (s ∷ ss) h = (take-bytes s.file_size (drop s.offset file) (drop-bytes s.offset file h), blocks-are file ss h)
+
+pub image-is : (version : ℕ) (file : List ℕ) → AreBytes file → first_fault file ≡ None → IsProgram (image version file)
+image-is version file h faultless = record {
+  entry = number-fits (drop 24 file) (drop-bytes 24 file h);
+  aligned = entry_aligned file faultless;
+  bytes = blocks-are file (load_segments file) h;
+}
