@@ -1,4 +1,5 @@
 mod WordRanges
+mod ByteLists
 mod SignedWords
 mod Results
 mod Uses
@@ -16,5 +17,4 @@ mod States
 mod Frame
 mod LastUses
 pub mod Made
-pub mod Lanes
 pub mod Fetched

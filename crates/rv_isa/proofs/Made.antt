@@ -1,5 +1,5 @@
 -- Steps in parts: what is made after the reads of a step.
-use Rattle.std.proofs.Common.{◌≡◌, ℕ, ◌+◌, ◌%◌, ◌^◌, ◌≤◌, Bool, true, false, cond, ◌==◌, List, [], ◌++◌, Some, refl, sym, ◌∙◌, ap, arith, append-nil, append_assoc, subst}
+use Rattle.std.proofs.Common.{◌≡◌, ℕ, ◌+◌, ◌-◌, ◌%◌, ◌^◌, ◌≤◌, Bool, true, false, cond, ◌==◌, List, [], ◌++◌, length, replicate, Some, refl, sym, ◌∙◌, ap, arith, append-nil, append_assoc, subst}
 use Rattle.rv_base.specs.declared.record.Touch.{Touch}
 use Rattle.rv_base.specs.declared.instr.LoadKind.{LoadKind}
 use Rattle.rv_base.specs.declared.instr.LoadKind.TheVariants as loads
@@ -18,7 +18,8 @@ after e f first middle last reads o same read m =
       next = m.next ∙ sym (ap (λ x. x.next) same);
       end = m.end ∙ sym (ap (λ x. x.end) same);
       took = m.took ∙ sym (ap (λ x. x.took) same);
-      put = m.put ∙ sym (ap (λ x. x.put) same);
+      put = m.put ∙ sym (ap (λ x. length x.put) same);
+      word = m.word ∙ sym (ap (λ x. x.put ++ replicate (4 - o.put) 0) same);
       most = m.most;
     }
 
@@ -60,4 +61,4 @@ pub ruleset lanes = (load-within, store-within)
 -- a step that ends the run, and accesses nothing more
 pub ends-made : (pc kind code : ℕ) (first : List Touch) (o : Outcome) → o ≡ record { next = pc; end = Some (record { kind = kind; code = code }); took = 0; put = 0; word = 0 } → Makes (ends pc kind code []) first first o
 ends-made pc kind code first o is =
-    subst (λ (p : Outcome). Makes (ends pc kind code []) first first p) (sym is) (record { touches = sym (append-nil first); next = refl; end = refl; took = refl; put = refl; most = omega arith })
+    subst (λ (p : Outcome). Makes (ends pc kind code []) first first p) (sym is) (record { touches = sym (append-nil first); next = refl; end = refl; took = refl; put = refl; word = refl; most = omega arith })

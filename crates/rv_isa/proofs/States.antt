@@ -21,6 +21,7 @@ use Rattle.rv_spec.specs.Run.{state_after, run}
 use Rattle.rv_spec.specs.Agreement.{IsState, IsProgram, RunsAreStates}
 use Rattle.rv_spec.proofs.MemoryLaws.{byte-one}
 use Rattle.rv_isa.proofs.WordRanges.{IsWord, index-below, register-fits}
+use Rattle.rv_isa.proofs.ByteLists.{take-bytes, drop-bytes, word-bytes}
 use Rattle.rv_isa.proofs.Results.{compute-fits, load-fits}
 use Rattle.rv_isa.proofs.Fields.{HasFields, HasAnyFields, any-decoded}
 
@@ -30,19 +31,6 @@ set-below : (n : ℕ) (xs : List ℕ) (k w : ℕ) → AllByRecursion (λ x. x < 
 set-below n [] k w h small = tt
 set-below n (x ∷ xs) zero w h small = (small, h.1)
 set-below n (x ∷ xs) (suc k) w h small = (h.0, set-below n xs k w h.1 small)
-
-take-bytes : (k : ℕ) (xs : List ℕ) → AreBytes xs → AreBytes (take k xs)
-take-bytes zero xs h = tt
-take-bytes (suc k) [] h = tt
-take-bytes (suc k) (x ∷ xs) h = (h.0, take-bytes k xs h.1)
-
-drop-bytes : (k : ℕ) (xs : List ℕ) → AreBytes xs → AreBytes (drop k xs)
-drop-bytes zero xs h = h
-drop-bytes (suc k) [] h = tt
-drop-bytes (suc k) (x ∷ xs) h = drop-bytes k xs h.1
-
-word-bytes : (v : ℕ) → AreBytes (to_le_bytes w32 v)
-word-bytes v = (omega arith, (omega arith, (omega arith, (omega arith, tt))))
 
 -- ---- parts of a state
 

@@ -1,6 +1,6 @@
 //! The expected step of ECALL, by the number of the call: exit, read, write, and no other.
 
-ghost use Rattle.std.specs.Prelude.{[], ℕ, ◌≡◌, ◌+◌, ◌-◌, ◌/◌, ◌%◌, ◌^◌, ◌++◌, ◌<◌, ◌≤◌, length, min, take, drop};
+ghost use Rattle.std.specs.Prelude.{[], ℕ, ◌≡◌, ◌+◌, ◌-◌, ◌/◌, ◌%◌, ◌^◌, ◌++◌, ◌<◌, ◌≤◌, length, min, take, drop, replicate};
 ghost use Rattle.std.specs.Int.{w32, to_le_bytes};
 ghost use Rattle.arrayvec.specs.ArrayVec.{array_vec_len};
 ghost use Rattle.rv_spec.specs.Expected as isa;
@@ -87,12 +87,16 @@ fn splice(word: u32, lane: u32, bytes: &[u8]) -> u32
     u32::from_le_bytes(spliced)
 }
 
-/// A word that begins with the bytes of a word from byte `lane` on.
-fn from_lane(word: u32, lane: u32) -> u32
-    requires { lane < 4 }
-    ensures { (k : ℕ) → lane + k ≤ 4 → take k (to_le_bytes w32 result) ≡ take k (drop lane (to_le_bytes w32 word)) }
+/// A word of `count` bytes of a word from byte `lane` on, and zeros behind them.
+fn from_lane(word: u32, lane: u32, count: u32) -> u32
+    requires { lane + count ≤ 4 }
+    ensures { to_le_bytes w32 result ≡ take count (drop lane (to_le_bytes w32 word)) ++ replicate (4 - count) 0 }
 {
-    word >> (8 * lane)
+    let mut bytes = [0; 4];
+    let first = lane as usize;
+    let count = count as usize;
+    bytes[..count].copy_from_slice(&word.to_le_bytes()[first..first + count]);
+    u32::from_le_bytes(bytes)
 }
 
 /// From standard input into the buffer.
@@ -129,7 +133,7 @@ fn write(touches: &mut Touches, pc: u32, seen: &Seen) -> Outcome
             on_buffer(touches, seen.s4, count, seen.s6);
             Outcome {
                 put: count,
-                word: from_lane(seen.s6, seen.s4 % 4),
+                word: from_lane(seen.s6, seen.s4 % 4, count),
                 ..answer(touches, pc, count)
             }
         }

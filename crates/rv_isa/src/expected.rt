@@ -18,7 +18,7 @@ use rv_decode::{decode, decode_atomic};
 
 /// An expected step: its accesses in the order of their slots, the next instruction, the end if the
 /// step ends the run, and the bytes of input that it takes. The bytes that it puts, 0 to 4, are the
-/// first `put` bytes of `word`, the least significant first.
+/// first `put` bytes of `word`, the least significant first, and the others of `word` are 0.
 #[derive(Debug, Drop)]
 pub struct Expected {
     pub touches: ArrayVec<Touch, 8>,

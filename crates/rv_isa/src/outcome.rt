@@ -6,7 +6,7 @@ ghost use Rattle.rv_spec.specs.Expected as isa;
 use rv_base::End;
 
 /// The next instruction, the end if the step ends the run, the bytes of input that it takes, and
-/// the bytes that it puts: the first `put` bytes of `word`.
+/// the bytes that it puts: the first `put` bytes of `word`, whose others are 0.
 #[derive(Clone, Copy, Debug)]
 pub(crate) struct Outcome {
     pub next: u32,

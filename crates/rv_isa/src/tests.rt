@@ -90,15 +90,15 @@ fn calls(rt: HostRuntime) {
         ..read
     };
     let unknown = Seen { s2: 214, ..read };
-    for (seen, at, count, answer, took, put) in [
-        (read, 0, 7, 1, 1, 0),
-        (read, 2, 6, 0, 0, 0),
-        (write, 0, 7, 2, 0, 2),
-        (unknown, 0, 3, 0xFFFF_FFDA, 0, 0),
+    for (seen, at, count, answer, took, put, word) in [
+        (read, 0, 7, 1, 1, 0, 0),
+        (read, 2, 6, 0, 0, 0, 0),
+        (write, 0, 7, 2, 0, 2, 0x6968),
+        (unknown, 0, 3, 0xFFFF_FFDA, 0, 0, 0),
     ] {
         let step = expect(1, PC, &seen, &[0x41, 0x42], at);
         assert_eq!(rt; step.touches.len(), count);
         assert!(rt; step.touches.last() == Some(&access(7, 0x4000_000A, answer)));
-        assert_eq!(rt; (step.took, step.put), (took, put));
+        assert_eq!(rt; (step.took, step.put, step.word), (took, put, word));
     }
 }
