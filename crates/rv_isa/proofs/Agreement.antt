@@ -66,22 +66,30 @@ row-sees before k s t us rise =
     let bounds : (1 ≤ u.slot) × (u.slot < 9) = all-in (λ u. (1 ≤ u.slot) × (u.slot < 9)) us (all-within 1 9 us rise) u m in
     slot-seen accesses u.slot bounds.0 bounds.1 ∙ seen-in before k s t us (slots-differ 1 9 us rise) u m)
 
-pub steps-agree : StepsAgree
+-- any old values that are the state's where the step uses them give the machine's step
+pub expected-follows : (input : List ℕ) (s : State) (v : Seen) → IsState s → Sees v s (step_uses input s)
+    → ((expected s.version s.pc v input s.position).touches ≡ map touch_of (touches input s)) × GoesAs (expected s.version s.pc v input s.position) s (step input s)
 unfolding expected step touches step_uses
-steps-agree input s before k is within =
+expected-follows input s v is sees =
     let o : Option AnyInstr = decode_any s.version (fetch_word s) in
     let us : List Use = instruction_uses input o s in
     let t : State = next_state input s in
     let all : List Use = use_of 1 (s.pc / 4) ++ us in
-    let v : Seen = seen (map (access before k) (map (visit s t) all)) in
-    let sees : Sees v s all = row-sees before k s t all (omega arith, slots-rise input o s) in
     let low : s.pc / 4 < 2 ^ 30 = omega (arith, is.pc) in
     let fetched : v.s1 ≡ fetch_word s = sees.0 ∙ value-word s (s.pc / 4) low ∙ word-aligned s.memory s.pc is.aligned in
-    let follows : Follows (expected_any input s.position s.pc (decode_any s.version v.s1) v) s (step input s) us =
+    let e : Expected = expected_any input s.position s.pc (decode_any s.version v.s1) v in
+    let follows : Follows e s (step input s) us =
     subst (λ w. Follows (expected_any input s.position s.pc (decode_any s.version w) v) s (step input s) us) (sym fetched)
     (any-follows input s v o (any-decoded s.version (fetch_word s)) is sees.1) in
-    let accesses : touch 1 (s.pc / 4) v.s1 ++ (expected_any input s.position s.pc (decode_any s.version v.s1) v).touches ≡ made s t all = λ i. touch 1 (s.pc / 4) (sees.0 i) ++ follows.0 i in
-    record {
-      accesses = accesses ∙ sym (map-map touch_of (visit s t) all);
-      goes = goes-with (expected_any input s.position s.pc (decode_any s.version v.s1) v) (touch 1 (s.pc / 4) v.s1 ++ (expected_any input s.position s.pc (decode_any s.version v.s1) v).touches) s (step input s) follows.1;
-    }
+    let accesses : touch 1 (s.pc / 4) v.s1 ++ e.touches ≡ made s t all = λ i. touch 1 (s.pc / 4) (sees.0 i) ++ follows.0 i in
+    (accesses ∙ sym (map-map touch_of (visit s t) all), goes-with e (touch 1 (s.pc / 4) v.s1 ++ e.touches) s (step input s) follows.1)
+
+pub steps-agree : StepsAgree
+unfolding touches step_uses
+steps-agree input s before k is within =
+    let us : List Use = step_uses input s in
+    let t : State = next_state input s in
+    let v : Seen = seen (map (access before k) (map (visit s t) us)) in
+    let sees : Sees v s us = row-sees before k s t us (omega arith, slots-rise input (decode_any s.version (fetch_word s)) s) in
+    let follows = expected-follows input s v is sees in
+    record { accesses = follows.0; goes = follows.1 }

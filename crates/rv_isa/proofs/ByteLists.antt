@@ -1,8 +1,7 @@
 -- Lists of bytes, and the bytes of a part of a word.
-use Rattle.std.proofs.Common.{◌≡◌, ℕ, zero, suc, ◌+◌, ◌-◌, ◌^◌, ◌<◌, ◌≤◌, List, [], ◌∷◌, ◌++◌, length, take, drop, replicate, refl, sym, ◌∙◌, ap, arith}
+use Rattle.std.proofs.Common.{◌≡◌, ℕ, zero, suc, ◌+◌, ◌-◌, ◌^◌, ◌<◌, ◌≤◌, List, [], ◌∷◌, ◌++◌, length, get_or, take, drop, replicate, ◌∙◌, ap, arith}
 use Rattle.std.proofs.lemmas.List.{length-take, length-drop, length-append, length-replicate, drop-replicate}
 use Rattle.std.proofs.lemmas.Nat.{le_bytes_4}
-use Rattle.std.specs.List.{AllByRecursion}
 use Rattle.std.specs.Int.{w32, from_le_bytes, to_le_bytes}
 use Rattle.rv_spec.specs.Words.{AreBytes}
 use Rattle.rv_isa.proofs.WordRanges.{index-below}
@@ -19,6 +18,11 @@ drop-bytes (suc k) (x ∷ xs) h = drop-bytes k xs h.1
 
 pub word-bytes : (v : ℕ) → AreBytes (to_le_bytes w32 v)
 word-bytes v = (omega arith, (omega arith, (omega arith, (omega arith, tt))))
+
+-- a list of bytes, index by index
+pub bytes-are : (bytes : List ℕ) → ((i : ℕ) → get_or bytes i 0 < 2 ^ 8) → AreBytes bytes
+bytes-are [] fits = tt
+bytes-are (b ∷ bytes) fits = (fits 0, bytes-are bytes (λ i. fits (suc i)))
 
 append-bytes : (xs ys : List ℕ) → AreBytes xs → AreBytes ys → AreBytes (xs ++ ys)
 append-bytes [] ys h k = k

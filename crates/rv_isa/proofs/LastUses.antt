@@ -77,7 +77,7 @@ last-of c (x ∷ xs) lo hi r = go (x.cell == c) refl (last-of c xs (x.slot + 1) 
 
 -- ---- a step
 
-after-kept : (c : ℕ) (s : State) (turn : Turn) → Keeps c s turn → value (state_after s turn) c ≡ value s c
+pub after-kept : (c : ℕ) (s : State) (turn : Turn) → Keeps c s turn → value (state_after s turn) c ≡ value s c
 after-kept c s (Next t) h = h
 after-kept c s (Ends e) h = refl
 

@@ -18,3 +18,9 @@ mod Frame
 mod LastUses
 pub mod Made
 pub mod Fetched
+mod CellLaws
+pub mod Covered
+mod Seeing
+mod Placed
+mod Stepping
+mod MachineLaws

@@ -86,7 +86,7 @@ streams-stay s position output is = record { pc = is.pc; aligned = is.aligned; c
 -- ---- turns
 
 -- where the run goes on, it goes on in a state, at a position within the input
-abbrev Stays : List ℕ → Turn → Type 0
+abbrev pub Stays : List ℕ → Turn → Type 0
 Stays input (Next t) = IsState t × (t.position ≤ length input)
 Stays input (Ends e) = Unit {0}
 
@@ -220,7 +220,7 @@ any-stays input None s f is bytes within = tt
 any-stays input (Some (rv32im i)) s f is bytes within = instruction-stays input i s f is bytes within
 any-stays input (Some (rv32a i)) s f is bytes within = atomic-stays input i.op s i.rd (register s i.rs1) (register s i.rs2) is within (register-fits s i.rs1 is)
 
-step-stays : (input : List ℕ) (s : State) → IsState s → AreBytes input → s.position ≤ length input → Stays input (step input s)
+pub step-stays : (input : List ℕ) (s : State) → IsState s → AreBytes input → s.position ≤ length input → Stays input (step input s)
 unfolding step
 step-stays input s is bytes within = any-stays input (decode_any s.version (fetch_word s)) s (any-decoded s.version (fetch_word s)) is bytes within
 
@@ -239,7 +239,7 @@ block-bytes (b ∷ bs) a h = go (nat_le b.address a && nat_lt a (b.address + len
     go true later = index-below (2 ^ 8) b.bytes (a - b.address) (omega arith) h.0
     go false later = later
 
-start-is : (i : Image) → IsProgram i → IsState (start i)
+pub start-is : (i : Image) → IsProgram i → IsState (start i)
 unfolding byte
 start-is i program = record {
   pc = program.entry;

@@ -1,24 +1,15 @@
 -- The uses of a step one by one: what the expected step makes of old values, beside what the machine does.
 use Rattle.std.proofs.Common.{◌≡◌, ℕ, Bool, true, false, cond, ◌==◌, List, [], ◌∷◌, ◌++◌, map, refl, sym, ◌∙◌, ap, ap₂, add-zero, append-nil}
-use Rattle.std.specs.List.{AllByRecursion}
 use Rattle.std.proofs.lemmas.List.{map-append}
 use Rattle.std.proofs.lemmas.Bool.{eqb-true}
 use Rattle.rv_base.specs.declared.record.Seen.{Seen}
 use Rattle.rv_base.specs.declared.record.Touch.{Touch}
 use Rattle.rv_spec.specs.Step.{State, Turn, Next, stops}
 use Rattle.rv_spec.specs.Run.{state_after}
-use Rattle.rv_spec.specs.Cells.{value}
 use Rattle.rv_spec.specs.Touches.{Use, visit}
 use Rattle.rv_spec.specs.Expected.{Expected, goes_to, ends}
 use Rattle.rv_spec.specs.Agreement.{GoesAs, touch_of}
-
--- the old value in a slot
-abbrev pub in_slot : Seen → ℕ → ℕ
-in_slot v j = cond (j == 1) v.s1 (cond (j == 2) v.s2 (cond (j == 3) v.s3 (cond (j == 4) v.s4 (cond (j == 5) v.s5 (cond (j == 6) v.s6 (cond (j == 7) v.s7 v.s8))))))
-
--- the old values are those that the state holds
-abbrev pub Sees : Seen → State → List Use → Type 0
-Sees v s us = AllByRecursion (λ u. in_slot v u.slot ≡ value s u.cell) us
+pub use Rattle.rv_isa.specs.Sees.{in_slot, Sees}
 
 -- the accesses of a step from one state to another
 abbrev pub made : State → State → List Use → List Touch

@@ -76,7 +76,7 @@ fn after_fetch(
 }
 
 /// The atomic instruction of a word, in a version that has it.
-fn atomic_of(version: u8, word: u32) -> Option<Atomic>
+pub(crate) fn atomic_of(version: u8, word: u32) -> Option<Atomic>
     ensures { result ≡ (if version == 2 then spec.decode_atomic word else None) }
 {
     if version == 2 {

@@ -71,7 +71,7 @@ pub(crate) fn instruction(touches: &mut Touches, pc: u32, instr: Instr, seen: &S
 }
 
 /// The address at a signed distance, modulo 2^32.
-fn offset(from: u32, distance: i32) -> u32
+pub(crate) fn offset(from: u32, distance: i32) -> u32
     ensures { result ≡ plus from distance }
 {
     from.wrapping_add(distance.cast_unsigned())

@@ -3,13 +3,17 @@
 
 mod accesses;
 mod atomic;
+mod cells;
 mod environment;
 mod expected;
 mod instructions;
 pub mod laws;
+mod machine;
+mod operands;
 mod outcome;
 #[cfg(test)]
 mod tests;
 
 pub use expected::{Expected, expect};
+pub use machine::{Machine, Ran, RunStop, Turn};
 pub use rv_base::{Seen, Touch};

@@ -1,0 +1,186 @@
+//! The cells of a machine: memory, registers and the reservation.
+
+ghost use Rattle.std.specs.Prelude.{[], ℕ, List, ◌≡◌, ◌+◌, ◌^◌, ◌<◌, ◌==◌, if◌then◌else◌, find, IsTrue, OnOk, OnErr, Option, Some};
+ghost use Rattle.rv_spec.specs.Words.{plus};
+ghost use Rattle.rv_spec.specs.Step.{State};
+ghost use Rattle.rv_spec.specs.Expected.{operand as operand_of};
+ghost use Rattle.rv_spec.specs.Touches.{step_uses};
+ghost use Rattle.rv_spec.specs.Cells.{is_cell, initial_value, value};
+ghost use Rattle.rv_spec.specs.Agreement.{IsState};
+ghost use Rattle.rv_isa.specs.Cells.{held, after, if_changed, access_in, left_by, ArePlaced, Holds, IsRegister, IsSame};
+ghost use Rattle.rv_isa.specs.Operands.{word_at, IsBased};
+ghost use Rattle.rv_isa.specs.Sees.{Sees};
+
+use crate::accesses::operand;
+use crate::instructions::offset;
+use crate::operands::{Address, Operands};
+use rv_base::{NoMemory, Seen, Touch};
+use rv_elf::Image;
+use std::alloc::Global;
+use std::collections::BTreeMap;
+
+/// The cell of x0, which is never used. Those of the other registers and of the reservation follow.
+const REGISTERS: u32 = 1 << 30;
+
+/// Where x2 points at the start.
+const STACK: u32 = 0x7FFF_F000;
+
+/// The image, the words of memory that were written over it, and the registers with the reservation behind them.
+#[derive(Drop)]
+pub(crate) struct Cells<'a> {
+    pub image: Image<'a>,
+    pub written: BTreeMap<u32, u32>,
+    pub registers: [u32; 33],
+}
+
+impl<'a> Cells<'a> {
+    /// The cells before the first step.
+    pub fn start(alloc: Global, image: Image<'a>) -> Cells<'a>
+        ensures image { result.image ≡ image.entry }
+        ensures begun { (c : ℕ) → IsTrue (is_cell 2 c) → held result c ≡ initial_value image.entry c }
+    {
+        let mut registers = [0; 33];
+        registers[2] = STACK;
+        Cells {
+            image,
+            written: BTreeMap::new(alloc),
+            registers,
+        }
+    }
+
+    /// What a cell holds. A number that is no cell's has 0.
+    pub fn get(&self, cell: u32) -> u32
+        ensures { result ≡ held self.now cell }
+    {
+        if cell < REGISTERS {
+            self.word(cell)
+        } else {
+            self.register((cell - REGISTERS) as usize)
+        }
+    }
+
+    /// The old values that the step at `pc` finds in its slots. A slot that it doesn't use may have any value.
+    pub fn see(&self, pc: u32) -> Seen
+        ensures { (input : List ℕ) (s : State) → IsState s → Holds self.now s → s.version ≡ self.now.image.version → s.pc ≡ pc → Sees result s (step_uses input s) }
+    {
+        let word = self.get(pc / 4);
+        let operands = Operands::of_word(self.image.version(), word);
+        Seen {
+            s1: word,
+            s2: self.register(operands.rs1 as usize),
+            s3: self.register(operands.rs2 as usize),
+            s4: self.register(11),
+            s5: self.register(12),
+            s6: self.addressed(operands.address),
+            s7: self.register(operands.rd as usize),
+            s8: self.register(32),
+        }
+    }
+
+    /// The word of memory at an address, if there is one.
+    fn addressed(&self, address: Option<Address>) -> u32
+        ensures { (s : State) → IsState s → Holds self.now s → IsBased address → word_at s address < 2 ^ 30 → result ≡ value s (word_at s address) }
+    {
+        match address {
+            Some(address) => self.get(self.byte_address(address) / 4),
+            None => 0,
+        }
+    }
+
+    /// The number of the byte at an address.
+    fn byte_address(&self, address: Address) -> u32
+        ensures { result ≡ plus (operand_of address.base (held self.now (2 ^ 30 + address.base))) address.offset }
+    {
+        let base = operand(address.base, self.register(address.base as usize));
+        offset(base, address.offset)
+    }
+
+    /// Word `w` of memory.
+    fn word(&self, w: u32) -> u32
+        requires { w < 2 ^ 30 }
+        ensures { result ≡ held self.now w }
+    {
+        match self.written.get(&w).copied() {
+            Some(word) => word,
+            None => self.image.word(w),
+        }
+    }
+
+    /// A register, or the reservation at 32.
+    fn register(&self, index: usize) -> u32
+        ensures { result ≡ held self.now (2 ^ 30 + index) }
+    {
+        self.registers.get(index).copied().unwrap_or(0)
+    }
+
+    /// Sets word `w` of memory. Without memory for it nothing changes.
+    fn set_word(&mut self, w: u32, value: u32) -> Result<(), NoMemory>
+        requires { w < 2 ^ 30 }
+        ensures image { self.new.image ≡ self.old.image }
+        ensures ok { OnOk result ((c : ℕ) → held self.new c ≡ (if c == w then value else held self.old c)) }
+        ensures err { OnErr result (IsSame self.old self.new) }
+    {
+        match self.written.insert(w, value) {
+            Ok(_) => Ok(()),
+            Err(_) => Err(NoMemory),
+        }
+    }
+
+    /// Sets a register or the reservation.
+    fn set_register(&mut self, cell: u32, value: u32)
+        requires { IsRegister cell }
+        ensures image { self.new.image ≡ self.old.image }
+        ensures set { (c : ℕ) → held self.new c ≡ (if c == cell then value else held self.old c) }
+    {
+        self.registers[(cell - REGISTERS) as usize] = value;
+    }
+
+    /// Does the accesses of a step, of which the one in slot 6 finds `word`. Without memory nothing changes.
+    pub fn apply(&mut self, touches: &[Touch], word: u32) -> Result<(), NoMemory>
+        requires { ArePlaced touches.now }
+        ensures image { self.new.image ≡ self.old.image }
+        ensures ok { OnOk result ((c : ℕ) → held self.new c ≡ left_by touches.now word c (held self.old c)) }
+        ensures err { OnErr result (IsSame self.old self.new) }
+    {
+        self.store(in_slot(touches, 6), word)?;
+        self.write(in_slot(touches, 7));
+        self.write(in_slot(touches, 8));
+        Ok(())
+    }
+
+    /// Stores a word of memory where the access changes it.
+    fn store(&mut self, touch: Option<Touch>, word: u32) -> Result<(), NoMemory>
+        requires { (t : Touch) → touch ≡ Some t → t.cell < 2 ^ 30 }
+        ensures image { self.new.image ≡ self.old.image }
+        ensures ok { OnOk result ((c : ℕ) → held self.new c ≡ after (if_changed word touch) c (held self.old c)) }
+        ensures err { OnErr result (IsSame self.old self.new) }
+    {
+        match touch {
+            Some(touch) if touch.new != word => self.set_word(touch.cell, touch.new),
+            _ => Ok(()),
+        }
+    }
+
+    /// Writes a register or the reservation, if there is an access.
+    fn write(&mut self, touch: Option<Touch>)
+        requires { (t : Touch) → touch ≡ Some t → IsRegister t.cell }
+        ensures image { self.new.image ≡ self.old.image }
+        ensures set { (c : ℕ) → held self.new c ≡ after touch c (held self.old c) }
+    {
+        if let Some(touch) = touch {
+            self.set_register(touch.cell, touch.new);
+        }
+    }
+}
+
+/// The access in a slot.
+fn in_slot(touches: &[Touch], slot: u8) -> Option<Touch>
+    ensures { result ≡ access_in touches.now slot }
+{
+    for touch in touches {
+        if touch.slot == slot {
+            return Some(*touch);
+        }
+    }
+    None
+}

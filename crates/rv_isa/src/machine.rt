@@ -1,0 +1,170 @@
+//! The machine of RV32IM and RV32IMA, step by step.
+
+ghost use Rattle.std.specs.Prelude.{ℕ, ◌≡◌, ◌+◌, ◌≤◌, ◌++◌, take, List, Some, None, Ok, OnOk, OnErr, IfOk, IfErr};
+ghost use Rattle.std.specs.Int.{w32, to_le_bytes, IsInRange};
+ghost use Rattle.rv_base.specs.declared.record.End.{End as EndOf};
+ghost use Rattle.rv_spec.specs.Step as spec;
+ghost use Rattle.rv_spec.specs.Step.{State};
+ghost use Rattle.rv_spec.specs.Run.{GoesOn};
+ghost use Rattle.rv_isa.specs.Cells.{held, left_by, ArePlaced, IsSame};
+ghost use Rattle.rv_isa.specs.Machine.{IsFresh, IsRan, Shows, Takes};
+
+use crate::cells::Cells;
+use crate::expected::{Expected, expect};
+use rv_base::{Bytes, End, NoMemory};
+use rv_elf::Image;
+use std::alloc::Global;
+use std::marker::Model;
+
+/// What a step does: the run goes on, or ends.
+#[derive(Clone, Copy, PartialEq, Eq, Debug)]
+pub enum Turn {
+    Next,
+    Ends(End),
+}
+
+/// A run that ended: its steps, the ending one counted, its end, the bytes of input that it took and its output.
+#[derive(Debug, Drop)]
+pub struct Ran {
+    pub steps: u64,
+    pub end: End,
+    pub consumed: u64,
+    pub output: Bytes,
+}
+
+/// Why a run has no end: it goes on past its budget of steps, or there is no memory.
+#[derive(Clone, Copy, PartialEq, Eq, Debug)]
+pub enum RunStop {
+    Budget,
+    NoMemory,
+}
+
+/// A machine that runs a program on an input. It keeps the words of memory that were written, so a word that
+/// is written for the first time takes memory, and so do the bytes of the output.
+#[derive(Drop)]
+pub struct Machine<'a> {
+    cells: Cells<'a>,
+    input: &'a [u8],
+    pc: u32,
+    position: u64,
+    output: Vec<u8>,
+    ended: Option<End>,
+}
+
+impl<'a> Model for Machine<'a> {
+    ghost use Rattle.rv_isa.specs.Kept.{Kept};
+
+    ghost Value = { Kept };
+
+    ghost use Rattle.rv_isa.specs.Shown.{shown, IsShown};
+
+    ghost view = { shown };
+
+    ghost invariant = { IsShown };
+}
+
+impl<'a> Machine<'a> {
+    /// The machine before the first step of a program, in the version of its image.
+    pub fn start(alloc: Global, image: &Image<'a>, input: &'a [u8]) -> Machine<'a>
+        ensures image { result.image ≡ image.now }
+        ensures input { result.input ≡ input.now }
+        ensures fresh { IsFresh result }
+    {
+        Machine {
+            cells: Cells::start(alloc, image.copy()),
+            input,
+            pc: image.entry(),
+            position: 0,
+            output: Vec::new(alloc),
+            ended: None,
+        }
+    }
+
+    /// Takes one step. A machine that has ended stays and answers its end again. Without memory nothing changes.
+    pub fn step(&mut self) -> Result<Turn, NoMemory>
+        ensures image { self.new.image ≡ self.old.image }
+        ensures input { self.new.input ≡ self.old.input }
+        ensures ok { (s : State) → Shows self.old s → self.old.ended ≡ None → IfOk result (λ turn. Takes (spec.step self.old.input s) s turn self.new) }
+        ensures ended { (e : EndOf) → self.old.ended ≡ Some e → (result ≡ Ok (Turn.Ends e)) × (self.new ≡ self.old) }
+        ensures err { OnErr result (self.new ≡ self.old) }
+    {
+        if let Some(end) = self.ended {
+            return Ok(Turn::Ends(end));
+        }
+        let seen = self.cells.see(self.pc);
+        let step = expect(
+            self.cells.image.version(),
+            self.pc,
+            &seen,
+            self.input,
+            self.position,
+        );
+        if let Some(end) = step.end {
+            self.ended = Some(end);
+            return Ok(Turn::Ends(end));
+        }
+        carry_out(&mut self.cells, &mut self.output, &step, seen.s6)?;
+        self.pc = step.next;
+        self.position += step.took as u64;
+        Ok(Turn::Next)
+    }
+
+    /// Runs a machine that has taken no step to its end. Budget comes exactly where the run doesn't end
+    /// within that many steps, the ending one counted.
+    pub fn run(mut self, budget: u64) -> Result<Ran, RunStop>
+        requires fresh { IsFresh self }
+        requires budget { IsInRange 1 8388608 budget }
+        ensures ok { IfOk result (IsRan self.entry.image self.entry.input budget) }
+        ensures err { IfErr result (λ stop. stop ≡ RunStop.Budget → GoesOn self.entry.image self.entry.input budget) }
+    {
+        for done in 0..budget {
+            match self.step() {
+                Ok(Turn::Next) => {}
+                Ok(Turn::Ends(end)) => return Ok(self.ran(done + 1, end)),
+                Err(NoMemory) => return Err(RunStop::NoMemory),
+            }
+        }
+        Err(RunStop::Budget)
+    }
+
+    /// What the machine did in so many steps.
+    fn ran(self, steps: u64, end: End) -> Ran
+        ensures { result ≡ record { steps = steps; end = end; consumed = self.entry.position; output = self.entry.output } }
+    {
+        Ran {
+            steps,
+            end,
+            consumed: self.position,
+            output: Bytes::of(self.output),
+        }
+    }
+}
+
+/// Does the accesses of a step that finds `word` in memory and appends the bytes that it puts, or does neither.
+fn carry_out(
+    cells: &mut Cells<'_>,
+    output: &mut Vec<u8>,
+    step: &Expected,
+    word: u32,
+) -> Result<(), NoMemory>
+    requires places { ArePlaced step.now.touches.items }
+    requires most { step.now.put ≤ 4 }
+    ensures image { cells.new.image ≡ cells.old.image }
+    ensures cells { OnOk result ((c : ℕ) → held cells.new c ≡ left_by step.now.touches.items word c (held cells.old c)) }
+    ensures output { OnOk result (output.new.items ≡ output.old.items ++ take step.now.put (to_le_bytes w32 step.now.word)) }
+    ensures err { OnErr result (IsSame cells.old cells.new × (output.new.items ≡ output.old.items)) }
+{
+    let length = output.len();
+    let bytes = step.word.to_le_bytes();
+    if output
+        .extend_from_slice(&bytes[..step.put as usize])
+        .is_err()
+    {
+        return Err(NoMemory);
+    }
+    if cells.apply(step.touches.as_slice(), word).is_err() {
+        output.truncate(length);
+        return Err(NoMemory);
+    }
+    Ok(())
+}
