@@ -1,9 +1,7 @@
 -- What a file without a fault loads has the ranges of a program.
-use Rattle.std.proofs.Common.{◌≡◌, ℕ, zero, suc, ◌+◌, ◌*◌, ◌%◌, ◌^◌, ◌<◌, List, [], ◌∷◌, get_or, take, drop, map, None, sym, arith}
+use Rattle.std.proofs.Common.{◌≡◌, ℕ, zero, suc, ◌^◌, ◌<◌, List, [], ◌∷◌, get_or, take, drop, map, None, arith}
 use Rattle.std.specs.List.{AllByRecursion}
 use Rattle.std.specs.Int.{w32, from_le_bytes}
-use Rattle.std.proofs.lemmas.List.{get_or-drop}
-use Rattle.rv_base.specs.LittleEndian.{u32_at, number_at}
 use Rattle.rv_spec.specs.Words.{AreBytes}
 use Rattle.rv_spec.specs.Elf.{Segment, first_fault, load_segments, block_of, image}
 use Rattle.rv_spec.specs.Agreement.{IsProgram}

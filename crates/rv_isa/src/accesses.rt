@@ -11,7 +11,7 @@ use rv_base::{Seen, Touch};
 pub(crate) type Touches = ArrayVec<Touch, 8>;
 
 /// The cell of x0, which is never accessed; register r has the r-th cell after it.
-const REGISTER_CELLS: u32 = 0x4000_0000;
+pub(crate) const REGISTER_CELLS: u32 = 1 << 30;
 
 pub(crate) fn touch(touches: &mut Touches, slot: u8, cell: u32, new: u32)
     requires { array_vec_len touches.old < 8 }

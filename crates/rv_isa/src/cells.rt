@@ -11,7 +11,7 @@ ghost use Rattle.rv_isa.specs.Cells.{held, after, if_changed, access_in, left_by
 ghost use Rattle.rv_isa.specs.Operands.{word_at, IsBased};
 ghost use Rattle.rv_isa.specs.Sees.{Sees};
 
-use crate::accesses::operand;
+use crate::accesses::{REGISTER_CELLS, operand};
 use crate::instructions::offset;
 use crate::operands::{Address, Operands};
 use rv_base::{NoMemory, Seen, Touch};
@@ -19,11 +19,15 @@ use rv_elf::Image;
 use std::alloc::Global;
 use std::collections::BTreeMap;
 
-/// The cell of x0, which is never used. Those of the other registers and of the reservation follow.
-const REGISTERS: u32 = 1 << 30;
-
 /// Where x2 points at the start.
 const STACK: u32 = 0x7FFF_F000;
+
+/// The registers that hold the arguments of a call after its first, and the place of the reservation.
+const A1: usize = 11;
+
+const A2: usize = 12;
+
+const RESERVATION: usize = 32;
 
 /// The image, the words of memory that were written over it, and the registers with the reservation behind them.
 #[derive(Drop)]
@@ -52,10 +56,10 @@ impl<'a> Cells<'a> {
     pub fn get(&self, cell: u32) -> u32
         ensures { result ≡ held self.now cell }
     {
-        if cell < REGISTERS {
+        if cell < REGISTER_CELLS {
             self.word(cell)
         } else {
-            self.register((cell - REGISTERS) as usize)
+            self.register((cell - REGISTER_CELLS) as usize)
         }
     }
 
@@ -69,11 +73,11 @@ impl<'a> Cells<'a> {
             s1: word,
             s2: self.register(operands.rs1 as usize),
             s3: self.register(operands.rs2 as usize),
-            s4: self.register(11),
-            s5: self.register(12),
+            s4: self.register(A1),
+            s5: self.register(A2),
             s6: self.addressed(operands.address),
             s7: self.register(operands.rd as usize),
-            s8: self.register(32),
+            s8: self.register(RESERVATION),
         }
     }
 
@@ -106,7 +110,7 @@ impl<'a> Cells<'a> {
         }
     }
 
-    /// A register, or the reservation at 32.
+    /// A register, or the reservation behind them.
     fn register(&self, index: usize) -> u32
         ensures { result ≡ held self.now (2 ^ 30 + index) }
     {
@@ -132,7 +136,7 @@ impl<'a> Cells<'a> {
         ensures image { self.new.image ≡ self.old.image }
         ensures set { (c : ℕ) → held self.new c ≡ (if c == cell then value else held self.old c) }
     {
-        self.registers[(cell - REGISTERS) as usize] = value;
+        self.registers[(cell - REGISTER_CELLS) as usize] = value;
     }
 
     /// Does the accesses of a step, of which the one in slot 6 finds `word`. Without memory nothing changes.

@@ -18,6 +18,7 @@ const OVERWRITE: [u32; 3] = [0x0001_02B7, 0x0062_A223, 0xFFDF_F06F];
 
 /// `lw x6, 2(x5)` and `sw x6, 2(x5)`, where x5 is a multiple of 4.
 const MISALIGNED_LOAD: [u32; 2] = [0x0001_02B7, 0x0022_A303];
+
 const MISALIGNED_STORE: [u32; 2] = [0x0001_02B7, 0x0062_A123];
 
 /// Writes the three bytes behind its code, and exits with the answer.
@@ -59,7 +60,9 @@ const TO_ERROR: [u32; 6] = [
     0x05D0_0893,
     0x73,
 ];
+
 const TO_FIVE: [u32; 5] = [0x0050_0513, 0x0400_0893, 0x73, 0x05D0_0893, 0x73];
+
 const UNKNOWN: [u32; 4] = [0x0D60_0893, 0x73, 0x05D0_0893, 0x73];
 
 /// A word is reserved and stored, and then a word that is no instruction is fetched.
@@ -74,6 +77,7 @@ const STORED: [u32; 6] = [
     0x05D0_0893,
     0x73,
 ];
+
 const REFUSED: [u32; 4] = [0x0002_02B7, 0x1862_A52F, 0x05D0_0893, 0x73];
 
 /// The executable of some words at 0x10000.

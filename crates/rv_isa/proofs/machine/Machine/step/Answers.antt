@@ -16,7 +16,7 @@ pub expect-step-requires-clause-within : goal.expect-step-requires-clause-within
 expect-step-requires-clause-within c = position-within (shown c.self.inside) c.self.invariant
 
 pub invariant_of-self : goal.invariant_of-self
-invariant_of-self c = same-sound (shown c.self.inside) _ c.self.invariant (Some c.in-Some-end.end) refl
+invariant_of-self c = same-sound (shown c.self.inside) _ c.self.invariant _ refl
 
 pub returns-in-Some-end-clause-ok : goal.returns-in-Some-end-clause-ok
 returns-in-Some-end-clause-ok c s shows none =
