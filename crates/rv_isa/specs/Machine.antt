@@ -22,7 +22,7 @@ pub record Shows (m : Kept) (s : State) : Type 0 where
   pub ranges : IsState s
   pub within : s.position ≤ length m.input
 
--- a machine that has taken no step
+-- a machine that has taken no step: it has not ended, and stands for the state before the first one
 abbrev pub IsFresh : Kept → Type 0
 IsFresh m = (m.ended ≡ None) × Shows m (start m.image)
 

@@ -8,6 +8,7 @@ use rv_elf::{Part, read, write};
 use std::alloc::Global;
 use std::test::Fail;
 
+/// `ebreak`.
 const EBREAK: u32 = 0x0010_0073;
 
 /// `addi x10, x0, 42`, and an exit.
@@ -16,9 +17,10 @@ const EXIT: [u32; 3] = [0x02A0_0513, 0x05D0_0893, 0x73];
 /// Stores 0 onto its own word, jumps back to it, and fetches the 0.
 const OVERWRITE: [u32; 3] = [0x0001_02B7, 0x0062_A223, 0xFFDF_F06F];
 
-/// `lw x6, 2(x5)` and `sw x6, 2(x5)`, where x5 is a multiple of 4.
+/// `lw x6, 2(x5)`, where x5 is a multiple of 4.
 const MISALIGNED_LOAD: [u32; 2] = [0x0001_02B7, 0x0022_A303];
 
+/// `sw x6, 2(x5)`, where x5 is a multiple of 4.
 const MISALIGNED_STORE: [u32; 2] = [0x0001_02B7, 0x0062_A123];
 
 /// Writes the three bytes behind its code, and exits with the answer.
@@ -51,7 +53,7 @@ const READS: [u32; 13] = [
     0x73,
 ];
 
-/// Exits with what a call answers: a write of 9 bytes to standard error, a write to 5, and call 214.
+/// Exits with what a write of 9 bytes to standard error answers.
 const TO_ERROR: [u32; 6] = [
     0x0020_0513,
     0x0090_0613,
@@ -61,14 +63,16 @@ const TO_ERROR: [u32; 6] = [
     0x73,
 ];
 
+/// Exits with what a write to 5 answers.
 const TO_FIVE: [u32; 5] = [0x0050_0513, 0x0400_0893, 0x73, 0x05D0_0893, 0x73];
 
+/// Exits with what call 214 answers.
 const UNKNOWN: [u32; 4] = [0x0D60_0893, 0x73, 0x05D0_0893, 0x73];
 
 /// A word is reserved and stored, and then a word that is no instruction is fetched.
 const RESERVED: [u32; 3] = [0x0002_02B7, 0x1002_A32F, 0x1862_A3AF];
 
-/// Exits with what SC.W answers, with its word reserved and without.
+/// Exits with what SC.W answers where its word is reserved.
 const STORED: [u32; 6] = [
     0x0070_0513,
     0x0002_02B7,
@@ -78,6 +82,7 @@ const STORED: [u32; 6] = [
     0x73,
 ];
 
+/// Exits with what SC.W answers where nothing is reserved.
 const REFUSED: [u32; 4] = [0x0002_02B7, 0x1862_A52F, 0x05D0_0893, 0x73];
 
 /// The executable of some words at 0x10000.
