@@ -1,5 +1,5 @@
 -- The words of a command line, and the command that they spell (this project's own).
-use Rattle.std.specs.Prelude.{ℕ, ◌+◌, ◌*◌, ◌-◌, Bool, not, ◌&&◌, ◌||◌, List, [], ◌∷◌, length, fold, Option, Some, None, ◌==◌, bytes_eq, codes, slice_index, if◌then◌else◌}
+use Rattle.std.specs.Prelude.{ℕ, ◌+◌, ◌*◌, ◌-◌, Bool, not, ◌&&◌, ◌||◌, List, [], ◌∷◌, length, fold, Option, Some, None, nat_lt, false, ◌==◌, bytes_eq, codes, slice_index, if◌then◌else◌}
 use Rattle.std.specs.List.{list_all}
 use Rattle.std.specs.Int.{is_in_range}
 
@@ -30,9 +30,18 @@ pub record MakeWords : Type 0 where
   pub shard : ℕ
   pub budget : ℕ
 
+-- run ELF INPUT OUTPUT BUDGET for version 1, run2 for version 2
+pub record RunWords : Type 0 where
+  pub version : ℕ
+  pub elf : List ℕ
+  pub input : List ℕ
+  pub target : List ℕ
+  pub budget : ℕ
+
 -- a command with its numbers read
 pub data CommandWords : Type 0 where
   make : MakeWords → CommandWords
+  run : RunWords → CommandWords
 
 -- make with its numbers, where each is one
 abbrev pub make_words : List ℕ → List ℕ → List ℕ → Option ℕ → Option ℕ → Option ℕ → Option CommandWords
@@ -45,7 +54,43 @@ make_of (elf ∷ input ∷ target ∷ workers ∷ shard ∷ budget ∷ []) =
     make_words elf input target (number 1 64 workers) (number 1 65536 shard) (number 1 8388608 budget)
 make_of _ = None
 
+abbrev pub run_words : ℕ → List ℕ → List ℕ → List ℕ → Option ℕ → Option CommandWords
+run_words version elf input target (Some budget) =
+    Some (run (record { version = version; elf = elf; input = input; target = target; budget = budget }))
+run_words version elf input target None = None
+
+abbrev pub run_of : ℕ → List (List ℕ) → Option CommandWords
+run_of version (elf ∷ input ∷ target ∷ budget ∷ []) = run_words version elf input target (number 1 8388608 budget)
+run_of version _ = None
+
 -- the command that the words spell, if they spell one
 abbrev pub command : List (List ℕ) → Option CommandWords
 command [] = None
-command (name ∷ arguments) = if bytes_eq name (codes "make") then make_of arguments else None
+command (name ∷ arguments) =
+    if bytes_eq name (codes "make") then make_of arguments
+    else (if bytes_eq name (codes "run") then run_of 1 arguments
+    else (if bytes_eq name (codes "run2") then run_of 2 arguments
+    else None))
+
+-- ---- what a command uses
+
+-- the name of the ELF file
+abbrev pub elf_of : CommandWords → List ℕ
+elf_of (make w) = w.elf
+elf_of (run w) = w.elf
+
+-- the name of the input
+abbrev pub input_of : CommandWords → List ℕ
+input_of (make w) = w.input
+input_of (run w) = w.input
+
+-- the name of the file that is written
+abbrev pub target_of : CommandWords → List ℕ
+target_of (make w) = w.target
+target_of (run w) = w.target
+
+-- a command that is given more than one worker
+abbrev pub is_teamwork : Option CommandWords → Bool
+is_teamwork (Some (make w)) = nat_lt 1 w.workers
+is_teamwork (Some (run w)) = false
+is_teamwork None = false

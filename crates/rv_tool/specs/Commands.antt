@@ -1,13 +1,20 @@
 -- The commands of the program, and the words that spell them.
 use Rattle.std.specs.Prelude.{◌≡◌, Option, Some, None, MatchOption}
-use Rattle.rv_tool.specs.CommandLine.{CommandWords, make}
+use Rattle.std.specs.Int.{IsInRange}
+use Rattle.rv_tool.specs.CommandLine.{CommandWords, make, run}
 use Rattle.rv_tool.specs.declared.commands.Command.{Command}
-use Rattle.rv_tool.specs.declared.commands.Command.TheVariants.{Make}
+use Rattle.rv_tool.specs.declared.commands.Command.TheVariants.{Make, Run}
 
 abbrev pub words_of : Command → CommandWords
 words_of (Make m) =
     make (record { elf = m.elf.now; input = m.input.now; target = m.«record».now; workers = m.workers; shard = m.shard; budget = m.budget })
+words_of (Run r) = run (record { version = r.version; elf = r.elf.now; input = r.input.now; target = r.output.now; budget = r.budget })
 
 -- what was spelled is the command, or none
 abbrev pub IsCommand : Option CommandWords → Option Command → Type 0
 IsCommand spelled c = MatchOption c (spelled ≡ None) (λ c. spelled ≡ Some (words_of c))
+
+-- the numbers of a command are in their ranges
+abbrev pub HasRanges : Command → Type 0
+HasRanges (Make m) = IsInRange 1 64 m.workers × IsInRange 1 65536 m.shard × IsInRange 1 8388608 m.budget
+HasRanges (Run r) = IsInRange 1 2 r.version × IsInRange 1 8388608 r.budget

@@ -1,5 +1,5 @@
 -- The statuses and lines of what ends a command early.
-use Rattle.std.specs.Prelude.{ℕ, List, codes}
+use Rattle.std.specs.Prelude.{ℕ, Bool, true, false, List, codes}
 use Rattle.rv_elf.specs.Faults.{number_of}
 use Rattle.rv_tool.specs.declared.faults.Limited.{Limited}
 use Rattle.rv_tool.specs.declared.faults.Limited.TheVariants as limited
@@ -30,3 +30,9 @@ line_of Write = line (codes "fault write")
 line_of Memory = line (codes "fault memory")
 line_of (Limit what) = limit_line (name_of what)
 line_of NotBuilt = line (codes "fault notbuilt")
+
+-- the lines that tell a number
+abbrev pub has_number : Fault → Bool
+has_number (Elf _) = true
+has_number (Budget _) = true
+has_number _ = false

@@ -1,4 +1,10 @@
+pub mod Answers
 pub mod CommandLine
 pub mod Commands
 pub mod Faults
+pub mod FileCalls
 pub mod Lines
+pub mod Outcome
+pub mod Performance
+pub mod Promised
+pub mod Shelves

@@ -16,6 +16,9 @@ abbrev pub made_line : ℕ → ℕ → End → ℕ → List ℕ
 made_line steps shards e bytes =
     line (codes "made" ++ field (codes "steps") steps ++ field (codes "shards") shards ++ end_fields e ++ field (codes "bytes") bytes)
 
+abbrev pub ran_line : ℕ → End → ℕ → List ℕ
+ran_line steps e output = line (codes "ran" ++ field (codes "steps") steps ++ end_fields e ++ field (codes "output") output)
+
 -- the name at a number, from 1 on
 abbrev pub name_at : List (List ℕ) → ℕ → List ℕ
 name_at [] n = []

@@ -1,8 +1,9 @@
 //! The words of a command line, read by hand.
 
-ghost use Rattle.std.specs.Prelude.{map, string_bytes};
-ghost use Rattle.rv_tool.specs.Commands.{IsCommand};
-ghost use Rattle.rv_tool.specs.CommandLine.{command, make_of};
+ghost use Rattle.std.specs.Prelude.{map, string_bytes, IfSome};
+ghost use Rattle.std.specs.Int.{IsInRange};
+ghost use Rattle.rv_tool.specs.Commands.{HasRanges, IsCommand};
+ghost use Rattle.rv_tool.specs.CommandLine.{command, make_of, run_of};
 
 use crate::numbers::number;
 
@@ -10,6 +11,7 @@ use crate::numbers::number;
 #[derive(Clone, Copy, Debug)]
 pub enum Command<'a> {
     Make(Make<'a>),
+    Run(Run<'a>),
 }
 
 /// `make ELF INPUT RECORD WORKERS SHARD BUDGET`: writes the record of a run.
@@ -26,21 +28,37 @@ pub struct Make<'a> {
     pub budget: u32,
 }
 
+/// `run ELF INPUT OUTPUT BUDGET`: writes what a program puts on standard output. `run2` does so for version 2.
+#[derive(Clone, Copy, Debug)]
+pub struct Run<'a> {
+    /// 1 for RV32IM, 2 for RV32IMA.
+    pub version: u8,
+    pub elf: &'a str,
+    pub input: &'a str,
+    pub output: &'a str,
+    /// 1 to 8,388,608 steps, the ending one counted.
+    pub budget: u32,
+}
+
 /// The command that the words spell. None where they are no command, or a number is misspelled or out of its range.
 pub fn parse(words: &[String]) -> Option<Command<'_>>
-    ensures { IsCommand (command (map string_bytes words.now)) result }
+    ensures command { IsCommand (command (map string_bytes words.now)) result }
+    ensures ranges { IfSome result HasRanges }
 {
     let [name, arguments @ ..] = words else {
         return None;
     };
     match name.as_str() {
         "make" => parse_make(arguments),
+        "run" => parse_run(1, arguments),
+        "run2" => parse_run(2, arguments),
         _ => None,
     }
 }
 
 fn parse_make(arguments: &[String]) -> Option<Command<'_>>
-    ensures { IsCommand (make_of (map string_bytes arguments.now)) result }
+    ensures command { IsCommand (make_of (map string_bytes arguments.now)) result }
+    ensures ranges { IfSome result HasRanges }
 {
     let [elf, input, record, workers, shard, budget] = arguments else {
         return None;
@@ -54,6 +72,24 @@ fn parse_make(arguments: &[String]) -> Option<Command<'_>>
         record: record.as_str(),
         workers,
         shard,
+        budget,
+    }))
+}
+
+fn parse_run(version: u8, arguments: &[String]) -> Option<Command<'_>>
+    requires { IsInRange 1 2 version }
+    ensures command { IsCommand (run_of version (map string_bytes arguments.now)) result }
+    ensures ranges { IfSome result HasRanges }
+{
+    let [elf, input, output, budget] = arguments else {
+        return None;
+    };
+    let budget = number(budget.as_str(), 1, 8_388_608)?;
+    Some(Command::Run(Run {
+        version,
+        elf: elf.as_str(),
+        input: input.as_str(),
+        output: output.as_str(),
         budget,
     }))
 }

@@ -1,9 +1,9 @@
 //! Why a command ends without doing its work, with the status and the line of each cause.
 
-ghost use Rattle.std.specs.Prelude.{◌≡◌, IfOk, string_bytes};
+ghost use Rattle.std.specs.Prelude.{◌≡◌, IfOk, IsTrue, MatchOption, string_bytes};
 ghost use Rattle.rv_elf.specs.Faults.{number_of};
 ghost use Rattle.rv_tool.specs.Lines.{name_at, fault_names, elf_line as elf_line_of};
-ghost use Rattle.rv_tool.specs.Faults.{status_of, line_of};
+ghost use Rattle.rv_tool.specs.Faults.{status_of, line_of, has_number};
 
 use rv_base::{NoMemory, Text};
 use rv_elf::ElfFault;
@@ -54,20 +54,30 @@ impl Fault {
         }
     }
 
+    /// The line that the program prints, where it has no number.
+    pub fn fixed_line(&self) -> Option<&'static str>
+        ensures { MatchOption result (IsTrue (has_number self.now)) (λ line. line.now ≡ line_of self.now) }
+    {
+        match self {
+            Fault::Words => Some("fault words\n"),
+            Fault::Elf(_) | Fault::Budget(_) => None,
+            Fault::Read => Some("fault read\n"),
+            Fault::Write => Some("fault write\n"),
+            Fault::Memory => Some("fault memory\n"),
+            Fault::Limit(Limited::Elf) => Some("fault limit elf\n"),
+            Fault::Limit(Limited::Input) => Some("fault limit input\n"),
+            Fault::NotBuilt => Some("fault notbuilt\n"),
+        }
+    }
+
     /// The line that the program prints.
     pub fn line(&self, alloc: Global) -> Result<Text, NoMemory>
         ensures { IfOk result (λ text. text ≡ line_of self.now) }
     {
         let line = match self {
-            Fault::Words => String::from_str(alloc, "fault words\n"),
             Fault::Elf(fault) => elf_line(alloc, *fault),
             Fault::Budget(steps) => format!(in alloc; "fault budget {steps}\n"),
-            Fault::Read => String::from_str(alloc, "fault read\n"),
-            Fault::Write => String::from_str(alloc, "fault write\n"),
-            Fault::Memory => String::from_str(alloc, "fault memory\n"),
-            Fault::Limit(Limited::Elf) => String::from_str(alloc, "fault limit elf\n"),
-            Fault::Limit(Limited::Input) => String::from_str(alloc, "fault limit input\n"),
-            Fault::NotBuilt => String::from_str(alloc, "fault notbuilt\n"),
+            _ => String::from_str(alloc, self.fixed_line().unwrap_or("")),
         };
         match line {
             Ok(text) => Ok(Text::of(text)),

@@ -1,16 +1,25 @@
-//! Files read whole, up to a limit.
+//! A program and its input, read whole up to their limits.
 
-ghost use Rattle.std.specs.Prelude.{◌<◌, ◌≤◌, ◌^◌, IfOk, vec_len};
+ghost use Rattle.std.specs.Prelude.{◌≡◌, ◌<◌, ◌≤◌, ◌^◌, IfOk, IfErr, Some, None, length};
+ghost use Rattle.std.specs.Int.{IsInRange};
+ghost use Rattle.rv_spec.specs.Elf.{first_fault, image};
+ghost use Rattle.rv_elf.specs.Faults.{number_of};
+ghost use Rattle.rv_elf.specs.declared.fault.ElfFault.{ElfFault as SomeFault};
+ghost use Rattle.rv_tool.specs.Shelves.{shelved};
+ghost use Rattle.rv_tool.specs.FileCalls.{Loads, ReadsUpTo, ReadsWithin};
+ghost use Rattle.rv_tool.specs.declared.faults.Fault.TheVariants as fault;
 
 use crate::faults::{Fault, Limited};
+use rv_base::Bytes;
+use rv_elf::Image;
 use rv_host::Shelf;
 use std::alloc::Global;
 
 /// The most bytes of an ELF file.
-pub const ELF_LIMIT: usize = 67_108_864;
+const ELF_LIMIT: usize = 67_108_864;
 
 /// The most bytes of an input.
-pub const INPUT_LIMIT: usize = 16_777_216;
+const INPUT_LIMIT: usize = 16_777_216;
 
 /// The most bytes that one read asks for.
 const PIECE: usize = 65_536;
@@ -18,27 +27,38 @@ const PIECE: usize = 65_536;
 /// A program's file and its input.
 #[derive(Debug, Drop)]
 pub struct Loaded {
-    pub elf: Vec<u8>,
-    pub input: Vec<u8>,
+    pub elf: Bytes,
+    pub input: Bytes,
 }
 
 /// Reads a program and its input: the ELF file is held to its limit before the input is read.
 pub fn load<S: Shelf>(alloc: Global, shelf: &mut S, elf: &str, input: &str) -> Result<Loaded, Fault>
-    ensures elf { IfOk result (λ loaded. vec_len loaded.elf ≤ 67108864) }
-    ensures input { IfOk result (λ loaded. vec_len loaded.input ≤ 16777216) }
+    ensures { Loads elf.now input.now (shelved S.files S.read_faults S.write_faults shelf.old) (shelved S.files S.read_faults S.write_faults shelf.new) result }
 {
-    let elf = read_whole(alloc, shelf, elf, ELF_LIMIT)?;
-    if elf.len() > ELF_LIMIT {
-        return Err(Fault::Limit(Limited::Elf));
-    }
-    let input = read_whole(alloc, shelf, input, INPUT_LIMIT)?;
-    if input.len() > INPUT_LIMIT {
-        return Err(Fault::Limit(Limited::Input));
-    }
+    let elf = read_within(alloc, shelf, elf, ELF_LIMIT, Limited::Elf)?;
+    let input = read_within(alloc, shelf, input, INPUT_LIMIT, Limited::Input)?;
     Ok(Loaded { elf, input })
 }
 
-/// The bytes of a file, or one more than the limit of a longer one.
+/// The bytes of a file that is within a limit.
+fn read_within<S: Shelf>(
+    alloc: Global,
+    shelf: &mut S,
+    name: &str,
+    limit: usize,
+    what: Limited,
+) -> Result<Bytes, Fault>
+    requires { limit < 2 ^ 32 }
+    ensures { ReadsWithin name.now limit what (shelved S.files S.read_faults S.write_faults shelf.old) (shelved S.files S.read_faults S.write_faults shelf.new) result }
+{
+    let bytes = read_whole(alloc, shelf, name, limit)?;
+    if bytes.len() > limit {
+        return Err(Fault::Limit(what));
+    }
+    Ok(Bytes::of(bytes))
+}
+
+/// The bytes of a file, or the first `limit + 1` of a longer one.
 fn read_whole<S: Shelf>(
     alloc: Global,
     shelf: &mut S,
@@ -46,21 +66,38 @@ fn read_whole<S: Shelf>(
     limit: usize,
 ) -> Result<Vec<u8>, Fault>
     requires { limit < 2 ^ 32 }
+    ensures { ReadsUpTo name.now limit (shelved S.files S.read_faults S.write_faults shelf.old) (shelved S.files S.read_faults S.write_faults shelf.new) result }
 {
-    let mut piece = vec![in alloc; 0u8; PIECE].map_err(|_| Fault::Memory)?;
+    let Ok(mut piece) = vec![in alloc; 0u8; PIECE] else {
+        return Err(Fault::Memory);
+    };
     let mut bytes = Vec::new(alloc);
-    // each turn but the last takes at least one byte
-    for _turn in 0..limit + 2 {
+    while bytes.len() <= limit {
         let room = (limit + 1 - bytes.len()).min(PIECE);
-        let taken = shelf
-            .read_at(name, bytes.len() as u64, &mut piece[..room])
-            .map_err(|_| Fault::Read)?;
+        let into = &mut piece[..room];
+        let Ok(taken) = shelf.read_at(name, bytes.len() as u64, into) else {
+            return Err(Fault::Read);
+        };
         if taken == 0 {
-            break;
+            return Ok(bytes);
         }
-        bytes
-            .extend_from_slice(&piece[..taken])
-            .map_err(|_| Fault::Memory)?;
+        let Ok(()) = bytes.extend_from_slice(&into[..taken]) else {
+            return Err(Fault::Memory);
+        };
     }
     Ok(bytes)
+}
+
+/// The image of a program, in a version of the machine: 1 for RV32IM, 2 for RV32IMA. Else the first fault of its file.
+pub fn image_of(elf: &[u8], version: u8) -> Result<Image<'_>, Fault>
+    requires version { IsInRange 1 2 version }
+    requires size { length elf.now ≤ 67108864 }
+    ensures faultless { IfOk result (λ i. first_fault elf.now ≡ None) }
+    ensures image { IfOk result (λ i. i ≡ image version elf.now) }
+    ensures fault { IfErr result (λ f. (e : SomeFault) × (f ≡ fault.Elf e) × (first_fault elf.now ≡ Some (number_of e))) }
+{
+    match rv_elf::read(elf) {
+        Ok(image) => Ok(image.with_version(version)),
+        Err(fault) => Err(Fault::Elf(fault)),
+    }
 }

@@ -6,10 +6,12 @@ mod faults;
 mod loading;
 mod make;
 mod numbers;
+mod run;
 mod scaffold;
 #[cfg(test)]
 mod tests;
 mod top;
+mod writing;
 
 use rv_host::{OpenGate, RealShelf, RealSink};
 use std::process::ExitCode;

@@ -1,43 +1,71 @@
 //! `make`: writes the record of a run.
 
+ghost use Rattle.std.specs.Prelude.{◌≡◌, IfOk, IfSome, length as length_of};
+ghost use Rattle.std.specs.List.{flat_map};
+ghost use Rattle.rv_tool.specs.Commands.{words_of};
+ghost use Rattle.rv_tool.specs.Lines.{made_line as made_line_of};
+ghost use Rattle.rv_tool.specs.Shelves.{shelved};
+ghost use Rattle.rv_tool.specs.Performance.{Performs};
+ghost use Rattle.rv_tool.specs.declared.commands.Command.TheVariants as command;
+
 use crate::commands::Make;
 use crate::faults::Fault;
-use crate::loading::load;
-use crate::scaffold::{Recorded, record};
+use crate::loading::{image_of, load};
+use crate::scaffold::record;
+use crate::writing::write_parts;
 use rv_base::{End, NoMemory, Text};
 use rv_host::Shelf;
 use std::alloc::Global;
 
 /// Makes the record, writes it to its file, and gives the line that tells of it. All memory is taken before the file is touched.
-pub fn make<S: Shelf>(alloc: Global, words: &Make<'_>, shelf: &mut S) -> Result<Text, Fault> {
+pub fn make<S: Shelf>(alloc: Global, words: &Make<'_>, shelf: &mut S) -> Result<Text, Fault>
+    ensures { Performs (words_of (command.Make words.now)) (shelved S.files S.read_faults S.write_faults shelf.old) (shelved S.files S.read_faults S.write_faults shelf.new) result }
+{
     if words.workers > 1 {
         return Err(Fault::NotBuilt);
     }
     let loaded = load(alloc, shelf, words.elf, words.input)?;
-    let image = rv_elf::read(loaded.elf.as_slice()).map_err(Fault::Elf)?;
+    let image = image_of(loaded.elf.list(), 1)?;
     let recorded = record(
         alloc,
         &image,
-        loaded.elf.as_slice(),
-        loaded.input.as_slice(),
+        loaded.elf.list(),
+        loaded.input.list(),
         words.shard,
         words.budget,
     )?;
-    let line = made_line_of(alloc, recorded.steps, 1, recorded.end, recorded.length()).map_err(
-        |_| Fault::Memory,
-    )?;
-    write_record(shelf, words.record, &recorded)?;
+    let parts = [
+        recorded.header.as_slice(),
+        recorded.output.list(),
+        recorded.shard.list(),
+        recorded.table.list(),
+    ];
+    let Some(bytes) = length(&parts) else {
+        return Err(Fault::Memory);
+    };
+    let line = match made_line(alloc, recorded.steps, 1, recorded.end, bytes) {
+        Ok(line) => line,
+        Err(NoMemory) => return Err(Fault::Memory),
+    };
+    write_parts(shelf, words.record, &parts)?;
     Ok(line)
 }
 
+/// The number of bytes of all parts, where it is below 2^64.
+fn length(parts: &[&[u8]]) -> Option<u64>
+    ensures { IfSome result (λ bytes. bytes ≡ length_of (flat_map (λ part. part.now) parts.now)) }
+{
+    let mut bytes: u64 = 0;
+    for part in parts {
+        bytes = bytes.checked_add(part.len() as u64)?;
+    }
+    Some(bytes)
+}
+
 /// The line of a record of so many steps, shards and bytes.
-fn made_line_of(
-    alloc: Global,
-    steps: u64,
-    shards: u32,
-    end: End,
-    bytes: u64,
-) -> Result<Text, NoMemory> {
+fn made_line(alloc: Global, steps: u64, shards: u32, end: End, bytes: u64) -> Result<Text, NoMemory>
+    ensures { IfOk result (λ text. text ≡ made_line_of steps shards end bytes) }
+{
     let kind = end.kind;
     let code = end.code;
     match format!(in alloc;
@@ -46,21 +74,4 @@ fn made_line_of(
         Ok(text) => Ok(Text::of(text)),
         Err(_) => Err(NoMemory),
     }
-}
-
-/// Writes header, output, shard and table by one append each.
-fn write_record<S: Shelf>(shelf: &mut S, name: &str, recorded: &Recorded) -> Result<(), Fault> {
-    shelf.create(name).map_err(|_| Fault::Write)?;
-    shelf
-        .append(name, &recorded.header)
-        .map_err(|_| Fault::Write)?;
-    shelf
-        .append(name, recorded.output.list())
-        .map_err(|_| Fault::Write)?;
-    shelf
-        .append(name, recorded.shard.list())
-        .map_err(|_| Fault::Write)?;
-    shelf
-        .append(name, recorded.table.list())
-        .map_err(|_| Fault::Write)
 }

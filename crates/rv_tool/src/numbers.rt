@@ -1,12 +1,14 @@
 //! Decimal numbers as the command line spells them.
 
-ghost use Rattle.std.specs.Prelude.{◌≡◌, ◌≤◌, true, length};
+ghost use Rattle.std.specs.Prelude.{◌≡◌, ◌≤◌, true, length, IfSome};
+ghost use Rattle.std.specs.Int.{IsInRange};
 ghost use Rattle.std.specs.List.{list_all};
 ghost use Rattle.rv_tool.specs.CommandLine.{is_digit, is_number as spells_number, decimal_value, number as number_of};
 
 /// The number that the text spells, if it lies from `least` to `most`. A number is `0`, or 1 to 20 digits that don't begin with `0`.
 pub fn number(text: &str, least: u32, most: u32) -> Option<u32>
-    ensures { result ≡ number_of least most text.now }
+    ensures number { result ≡ number_of least most text.now }
+    ensures range { IfSome result (IsInRange least most) }
 {
     let digits = text.as_bytes();
     if !is_number(digits) {

@@ -1,7 +1,8 @@
 //! A scaffold. It makes the record of a run of LUI, ADDI and exit calls in one shard. It goes when the machine, the walk over a
 //! run and the replay of its shards are there, and keeps nothing that these don't replace.
 
-ghost use Rattle.std.specs.Prelude.{◌≡◌, ◌<◌, ◌≤◌, ◌^◌, ◌+◌, IsTrue, IfOk, OnOk};
+ghost use Rattle.std.specs.Prelude.{◌≡◌, ◌<◌, ◌≤◌, ◌^◌, ◌+◌, IsTrue, IfErr, IfOk, OnOk};
+ghost use Rattle.rv_tool.specs.Performance.{IsStop};
 ghost use Rattle.arrayvec.specs.ArrayVec.{array_vec_len};
 ghost use Rattle.rv_spec.specs.Cells.{is_cell};
 
@@ -28,20 +29,6 @@ pub struct Recorded {
     pub table: Bytes,
 }
 
-impl Recorded {
-    /// The bytes of the record file.
-    pub fn length(&self) -> u64 {
-        let parts = [
-            self.output.list().len(),
-            self.shard.list().len(),
-            self.table.list().len(),
-        ];
-        parts
-            .iter()
-            .fold(173u64, |sum, part| sum.saturating_add(*part as u64))
-    }
-}
-
 /// How a run ended, and after how many steps, the ending one counted.
 #[derive(Clone, Copy)]
 struct Ended {
@@ -58,7 +45,9 @@ pub fn record(
     input: &[u8],
     shard: u32,
     budget: u32,
-) -> Result<Recorded, Fault> {
+) -> Result<Recorded, Fault>
+    ensures { IfErr result (IsStop budget) }
+{
     let ended = survey(image, budget)?;
     if ended.steps > shard {
         return Err(Fault::NotBuilt);
@@ -97,7 +86,9 @@ pub fn record(
 }
 
 /// Runs the program without recording it.
-fn survey(image: &Image<'_>, budget: u32) -> Result<Ended, Fault> {
+fn survey(image: &Image<'_>, budget: u32) -> Result<Ended, Fault>
+    ensures { IfErr result (IsStop budget) }
+{
     let mut registers = [0u32; 32];
     registers[2] = 0x7FFF_F000;
     let mut pc = image.entry();

@@ -1,8 +1,16 @@
 //! The top call: a command line is read, its command is run, and one line tells how it ended.
 
+ghost use Rattle.std.specs.Prelude.{◌≡◌, false, map, string_bytes, IsTrue};
+ghost use Rattle.rv_tool.specs.Answers.{Answers, Prints, PrintsFault, sunk, world};
+ghost use Rattle.rv_tool.specs.CommandLine.{command, is_teamwork};
+ghost use Rattle.rv_tool.specs.Commands.{words_of, HasRanges};
+ghost use Rattle.rv_tool.specs.Shelves.{shelved};
+ghost use Rattle.rv_tool.specs.Performance.{Performs};
+
 use crate::commands::{Command, parse};
 use crate::faults::Fault;
 use crate::make::make;
+use crate::run::run;
 use rv_base::Text;
 use rv_host::{Gate, Shelf, Sink};
 use std::alloc::Global;
@@ -10,10 +18,12 @@ use std::sync::Wait;
 use std::thread::Threads;
 
 /// Whether the words are a valid command that is given more than one worker.
-pub fn needs_team(words: &[String]) -> bool {
+pub fn needs_team(words: &[String]) -> bool
+    ensures { result ≡ is_teamwork (command (map string_bytes words.now)) }
+{
     match parse(words) {
         Some(Command::Make(make)) => make.workers > 1,
-        None => false,
+        Some(Command::Run(_)) | None => false,
     }
 }
 
@@ -37,7 +47,9 @@ pub fn tool<R: Threads + Wait, S: Shelf, K: Sink, G: Gate>(
     shelf: &mut S,
     out: &mut K,
     _gate: &G,
-) -> u8 {
+) -> u8
+    ensures { Answers (command (map string_bytes words.now)) (world (shelved S.files S.read_faults S.write_faults shelf.old) (sunk K.written K.faults out.old)) (world (shelved S.files S.read_faults S.write_faults shelf.new) (sunk K.written K.faults out.new)) result }
+{
     answer(alloc, words, shelf, out)
 }
 
@@ -47,22 +59,42 @@ pub fn tool_one<S: Shelf, K: Sink>(
     words: &[String],
     shelf: &mut S,
     out: &mut K,
-) -> u8 {
+) -> u8
+    requires alone { is_teamwork (command (map string_bytes words.now)) ≡ false }
+    ensures { Answers (command (map string_bytes words.now)) (world (shelved S.files S.read_faults S.write_faults shelf.old) (sunk K.written K.faults out.old)) (world (shelved S.files S.read_faults S.write_faults shelf.new) (sunk K.written K.faults out.new)) result }
+{
     answer(alloc, words, shelf, out)
 }
 
-fn answer<S: Shelf, K: Sink>(alloc: Global, words: &[String], shelf: &mut S, out: &mut K) -> u8 {
-    let ended = match parse(words) {
-        Some(Command::Make(words)) => make(alloc, &words, shelf),
-        None => Err(Fault::Words),
+fn answer<S: Shelf, K: Sink>(alloc: Global, words: &[String], shelf: &mut S, out: &mut K) -> u8
+    ensures { Answers (command (map string_bytes words.now)) (world (shelved S.files S.read_faults S.write_faults shelf.old) (sunk K.written K.faults out.old)) (world (shelved S.files S.read_faults S.write_faults shelf.new) (sunk K.written K.faults out.new)) result }
+{
+    let Some(asked) = parse(words) else {
+        return print_fault(alloc, out, Fault::Words);
     };
-    match ended {
+    match perform(alloc, &asked, shelf) {
         Ok(line) => print(out, 0, line.text()),
         Err(fault) => print_fault(alloc, out, fault),
     }
 }
 
-fn print_fault<K: Sink>(alloc: Global, out: &mut K, fault: Fault) -> u8 {
+/// Does the work of a command, and gives the line that tells of it.
+fn perform<S: Shelf>(alloc: Global, asked: &Command<'_>, shelf: &mut S) -> Result<Text, Fault>
+    requires { HasRanges asked.now }
+    ensures { Performs (words_of asked.now) (shelved S.files S.read_faults S.write_faults shelf.old) (shelved S.files S.read_faults S.write_faults shelf.new) result }
+{
+    match asked {
+        Command::Make(words) => make(alloc, words, shelf),
+        Command::Run(words) => run(alloc, words, shelf),
+    }
+}
+
+fn print_fault<K: Sink>(alloc: Global, out: &mut K, fault: Fault) -> u8
+    ensures { PrintsFault (sunk K.written K.faults out.old) (sunk K.written K.faults out.new) fault result }
+{
+    if let Some(line) = fault.fixed_line() {
+        return print(out, fault.status(), line);
+    }
     match fault.line(alloc) {
         Ok(line) => print(out, fault.status(), line.text()),
         Err(_) => print(out, Fault::Memory.status(), "fault memory\n"),
@@ -70,7 +102,9 @@ fn print_fault<K: Sink>(alloc: Global, out: &mut K, fault: Fault) -> u8 {
 }
 
 /// Puts the line by one call. Where that fails, nothing more is printed and the status is that of a failed write.
-fn print<K: Sink>(out: &mut K, status: u8, line: &str) -> u8 {
+fn print<K: Sink>(out: &mut K, status: u8, line: &str) -> u8
+    ensures { Prints (sunk K.written K.faults out.old) (sunk K.written K.faults out.new) status line.now result }
+{
     match out.put(line.as_bytes()) {
         Ok(()) => status,
         Err(_) => Fault::Write.status(),

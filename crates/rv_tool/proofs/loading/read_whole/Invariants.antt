@@ -1,5 +1,16 @@
-use Rattle.std.proofs.Common.{◌≡◌, ◌+◌, ◌≤◌, vec_len}
+use Rattle.std.proofs.Common.{◌≡◌, ℕ, ◌+◌, ◌-◌, ◌≤◌, List, length, take, vec_len, Some}
+use Rattle.rv_host.specs.Files.{Files, file}
 use Rattle.rv_tool.proofs.loading.read_whole.Given as goal
 
-abbrev pub invariant-loop-turn : goal.invariant-loop-turn
-invariant-loop-turn g l = record { room : vec_len l.bytes ≤ l.limit + 1; piece : vec_len l.piece ≡ 65536 }
+abbrev pub invariant-loop-bytes : goal.invariant-loop-bytes
+invariant-loop-bytes g l = record {
+  room : vec_len l.bytes ≤ l.fn.limit + 1;
+  piece : vec_len l.piece ≡ 65536;
+  files : g.S.Shelf.files l.shelf ≡ g.S.Shelf.files l.fn.shelf;
+  reads : (any : List ℕ) → g.S.Shelf.read_faults l.shelf any ≡ g.S.Shelf.read_faults l.fn.shelf any;
+  writes : (any : List ℕ) → g.S.Shelf.write_faults l.shelf any ≡ g.S.Shelf.write_faults l.fn.shelf any;
+  front : (told : Files) → g.S.Shelf.files l.fn.shelf ≡ Some told → l.bytes.items ≡ take (length l.bytes.items) (file told l.fn.name);
+}
+
+abbrev pub decreases-loop-bytes : goal.decreases-loop-bytes
+decreases-loop-bytes g l = l.fn.limit + 1 - vec_len l.bytes

@@ -1,0 +1,65 @@
+//! `run` and `run2`: run a program and write its output.
+
+ghost use Rattle.std.specs.Prelude.{IfOk, IfErr, ◌≡◌};
+ghost use Rattle.rv_tool.specs.Commands.{words_of};
+ghost use Rattle.rv_tool.specs.Shelves.{shelved};
+ghost use Rattle.rv_tool.specs.Performance.{Performs};
+ghost use Rattle.rv_tool.specs.Lines.{ran_line as ran_line_of};
+ghost use Rattle.rv_tool.specs.declared.commands.Command.TheVariants as command;
+ghost use Rattle.std.specs.Int.{IsInRange};
+ghost use Rattle.rv_spec.specs.Run.{GoesOn};
+ghost use Rattle.rv_isa.specs.Machine.{IsRan};
+ghost use Rattle.rv_isa.specs.declared.machine.RunStop.TheVariants as stops;
+
+use crate::commands::Run;
+use crate::faults::Fault;
+use crate::loading::{image_of, load};
+use crate::writing::write_parts;
+use rv_base::{End, NoMemory, Text};
+use rv_elf::Image;
+use rv_host::Shelf;
+use rv_isa::{Machine, Ran, RunStop};
+use std::alloc::Global;
+
+/// Runs the program, writes its output to a file, and gives the line that tells of it. All memory is taken before the file is touched.
+pub fn run<S: Shelf>(alloc: Global, words: &Run<'_>, shelf: &mut S) -> Result<Text, Fault>
+    requires version { IsInRange 1 2 words.now.version }
+    requires budget { IsInRange 1 8388608 words.now.budget }
+    ensures { Performs (words_of (command.Run words.now)) (shelved S.files S.read_faults S.write_faults shelf.old) (shelved S.files S.read_faults S.write_faults shelf.new) result }
+{
+    let loaded = load(alloc, shelf, words.elf, words.input)?;
+    let image = image_of(loaded.elf.list(), words.version)?;
+    let ran = match run_image(alloc, &image, loaded.input.list(), words.budget) {
+        Ok(ran) => ran,
+        Err(RunStop::Budget) => return Err(Fault::Budget(words.budget)),
+        Err(RunStop::NoMemory) => return Err(Fault::Memory),
+    };
+    let output = ran.output.list();
+    let line = match ran_line(alloc, ran.steps, ran.end, output.len()) {
+        Ok(line) => line,
+        Err(NoMemory) => return Err(Fault::Memory),
+    };
+    write_parts(shelf, words.output, &[output])?;
+    Ok(line)
+}
+
+/// Runs a program on an input. Budget comes exactly where the run doesn't end within so many steps.
+fn run_image(alloc: Global, image: &Image<'_>, input: &[u8], budget: u32) -> Result<Ran, RunStop>
+    requires { IsInRange 1 8388608 budget }
+    ensures ok { IfOk result (IsRan image.now input.now budget) }
+    ensures err { IfErr result (λ stop. stop ≡ stops.Budget → GoesOn image.now input.now budget) }
+{
+    Machine::start(alloc, image, input).run(u64::from(budget))
+}
+
+/// The line of a run of so many steps that put so many bytes.
+fn ran_line(alloc: Global, steps: u64, end: End, output: usize) -> Result<Text, NoMemory>
+    ensures { IfOk result (λ text. text ≡ ran_line_of steps end output) }
+{
+    let kind = end.kind;
+    let code = end.code;
+    match format!(in alloc; "ran steps={steps} end={kind} code={code} output={output}\n") {
+        Ok(text) => Ok(Text::of(text)),
+        Err(_) => Err(NoMemory),
+    }
+}
