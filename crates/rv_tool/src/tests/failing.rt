@@ -5,7 +5,7 @@ ghost use Rattle.rv_tool.specs.CommandLine.{command, is_teamwork};
 
 use super::programs::{PROGRAM, RECORD, of_code, spelled};
 use super::running::{GREETED, GREETING};
-use super::{MADE, shelf_with, words_of};
+use super::{MADE, expect, shelf_with, words_of};
 use crate::{needs_team, tool_one};
 use rv_host::{CalmShelf, MemShelf, MemSink};
 use std::alloc::Global;
@@ -105,8 +105,16 @@ fn run_with_each_failure(rt: HostRuntime) -> Result<(), Fail> {
 
 #[test]
 fn a_failure_that_comes_twice(rt: HostRuntime) -> Result<(), Fail> {
-    // an absent file fails at its first read, and the line that tells of it is torn
+    // an absent file fails at its first read
     let mut shelf = shelf_with(&rt, &PROGRAM)?;
+    expect(
+        &rt,
+        "run absent input output 1",
+        &mut shelf,
+        5,
+        "fault read\n",
+    )?;
+    // and here the line that tells of it is torn
     let mut sink = MemSink::new(rt.alloc());
     sink.plan(1, 7);
     let words = words_of(&rt, "run absent input output 1")?;

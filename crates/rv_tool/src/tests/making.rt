@@ -39,19 +39,33 @@ fn programs_as_a_linker_writes_them(rt: HostRuntime) -> Result<(), Fail> {
         [0x6474_E551, 0, 0, 0, 0, 0, 6, 0],
     ];
     let mut shelf = shelf_with(&rt, &with_headers(&rt, &headers, &bytes)?)?;
-    expect(&rt, "make elf input record 1 3 3", &mut shelf, 0, MADE)?;
+    expect(&rt, "make elf input record 1 3 3", &mut shelf, 0, MADE)
+}
+
+#[test]
+fn faults_of_several_segments(rt: HostRuntime) -> Result<(), Fail> {
+    let wrapping = [[1, 84, 0xFFFF_FFF8, 0xFFFF_FFF8, 0, 12, 7, 4]];
+    let many = [[1, 84, 0x10000, 0x10000, 0, 0, 7, 4]; 65];
     let overlapping = [
         [1, 116, 0x10000, 0x10000, 12, 12, 7, 4],
         [1, 128, 0x10008, 0x10008, 0, 4, 7, 4],
     ];
-    let mut shelf = shelf_with(&rt, &with_headers(&rt, &overlapping, &PROGRAM[84..])?)?;
-    expect(
-        &rt,
-        "make elf input record 1 3 3",
-        &mut shelf,
-        3,
-        "fault elf 15 Overlap\n",
-    )
+    let files = [
+        (
+            with_headers(&rt, &wrapping, b"")?,
+            "fault elf 13 SegmentWrap\n",
+        ),
+        (with_headers(&rt, &many, b"")?, "fault elf 14 TooMany\n"),
+        (
+            with_headers(&rt, &overlapping, &PROGRAM[84..])?,
+            "fault elf 15 Overlap\n",
+        ),
+    ];
+    for (elf, line) in &files {
+        let mut shelf = shelf_with(&rt, elf)?;
+        expect(&rt, "make elf input record 1 3 3", &mut shelf, 3, line)?;
+    }
+    Ok(())
 }
 
 #[test]
