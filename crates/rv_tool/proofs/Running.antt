@@ -1,7 +1,8 @@
 -- What is loaded is refused or run as the outcome says.
 use Rattle.std.proofs.Common.{◌≡◌, ◌⊎◌, inl, inr, ℕ, zero, suc, ◌+◌, ◌-◌, ◌≤◌, List, [], ◌++◌, length, Option, Some, None, Ok, Err, Result, false, nat_lt, refl, sym, ◌∙◌, ap, subst, arith, option_map, unwrap_or, append-nil}
-use Rattle.std.proofs.lemmas.Bool.{le-ltb, false≢true}
-use Rattle.std.specs.Result.{IsErr, IsErrAnd}
+use Rattle.std.proofs.lemmas.Bool.{le-ltb}
+use Rattle.std.specs.Result.{IsErrAnd}
+use Rattle.std.proofs.lemmas.Result.{err_from_is_err_and}
 use Rattle.rv_base.specs.declared.record.End.{End}
 use Rattle.rv_spec.specs.Elf.{Image, image, first_fault}
 use Rattle.rv_spec.specs.Run.{run as state_of, end_at, GoesOn, EndsIn}
@@ -22,9 +23,8 @@ use Rattle.rv_tool.specs.declared.faults.Fault.TheVariants.{Elf, Budget, Memory,
 use Rattle.rv_tool.specs.declared.loading.Loaded.{Loaded}
 
 -- an error that is handed on
-pub handed_on : {T : Type 0} (r : Result T Fault) (f : Fault) → IsErr r × IsErrAnd r (λ e. e ≡ f) → r ≡ Err f
-handed_on (Ok x) f h = absurd (false≢true h.0)
-handed_on (Err e) f h = ap Err h.1
+pub handed_on : {T : Type 0} (r : Result T Fault) (f : Fault) → IsErrAnd r (λ e. e ≡ f) → r ≡ Err f
+handed_on r f h = let p = err_from_is_err_and r h in p.1 ∙ ap Err p.2
 
 -- ---- the end within a budget
 

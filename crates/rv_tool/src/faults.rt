@@ -70,14 +70,15 @@ impl Fault {
         }
     }
 
-    /// The line that the program prints.
-    pub fn line(&self, alloc: Global) -> Result<Text, NoMemory>
+    /// The line that the program prints, where it has a number.
+    pub fn numbered_line(&self, alloc: Global) -> Result<Text, NoMemory>
+        requires { IsTrue (has_number self.now) }
         ensures { IfOk result (λ text. text ≡ line_of self.now) }
     {
         let line = match self {
             Fault::Elf(fault) => elf_line(alloc, *fault),
             Fault::Budget(steps) => format!(in alloc; "fault budget {steps}\n"),
-            _ => String::from_str(alloc, self.fixed_line().unwrap_or("")),
+            _ => unreachable!(),
         };
         match line {
             Ok(text) => Ok(Text::of(text)),

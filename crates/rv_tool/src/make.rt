@@ -43,9 +43,8 @@ pub fn make<S: Shelf>(alloc: Global, words: &Make<'_>, shelf: &mut S) -> Result<
     let Some(bytes) = length(&parts) else {
         return Err(Fault::Memory);
     };
-    let line = match made_line(alloc, recorded.steps, 1, recorded.end, bytes) {
-        Ok(line) => line,
-        Err(NoMemory) => return Err(Fault::Memory),
+    let Ok(line) = made_line(alloc, recorded.steps, 1, recorded.end, bytes) else {
+        return Err(Fault::Memory);
     };
     write_parts(shelf, words.record, &parts)?;
     Ok(line)

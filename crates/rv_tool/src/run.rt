@@ -35,9 +35,8 @@ pub fn run<S: Shelf>(alloc: Global, words: &Run<'_>, shelf: &mut S) -> Result<Te
         Err(RunStop::NoMemory) => return Err(Fault::Memory),
     };
     let output = ran.output.list();
-    let line = match ran_line(alloc, ran.steps, ran.end, output.len()) {
-        Ok(line) => line,
-        Err(NoMemory) => return Err(Fault::Memory),
+    let Ok(line) = ran_line(alloc, ran.steps, ran.end, output.len()) else {
+        return Err(Fault::Memory);
     };
     write_parts(shelf, words.output, &[output])?;
     Ok(line)

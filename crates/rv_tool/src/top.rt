@@ -11,7 +11,7 @@ use crate::commands::{Command, parse};
 use crate::faults::Fault;
 use crate::make::make;
 use crate::run::run;
-use rv_base::Text;
+use rv_base::{NoMemory, Text};
 use rv_host::{Gate, Shelf, Sink};
 use std::alloc::Global;
 use std::sync::Wait;
@@ -95,9 +95,9 @@ fn print_fault<K: Sink>(alloc: Global, out: &mut K, fault: Fault) -> u8
     if let Some(line) = fault.fixed_line() {
         return print(out, fault.status(), line);
     }
-    match fault.line(alloc) {
+    match fault.numbered_line(alloc) {
         Ok(line) => print(out, fault.status(), line.text()),
-        Err(_) => print(out, Fault::Memory.status(), "fault memory\n"),
+        Err(NoMemory) => print(out, Fault::Memory.status(), "fault memory\n"),
     }
 }
 

@@ -14,7 +14,7 @@ use Rattle.rv_tool.proofs.run.run.Goals as goal
 
 pub returns-in_err-image : goal.returns-in_err-image
 returns-in_err-image g c =
-    rw (handed_on c.from_residual-in_err-image.result c.in_err-image.field-0.0 c.from_residual-in_err-image.ensures)
+    rw (handed_on c.from_residual-in_err-image.result c.in_err-image.field-0.0 c.from_residual-in_err-image.ensures.1)
     (image_refused (words_of (command.Run c.args.words.now)) _ _ c.in_ok-loaded.loaded c.in_err-image.field-0.0 refl c.in_ok-loaded.ensures
     (subst (λ (bytes : List ℕ). (e : ElfFault) × (c.in_err-image.field-0.0 ≡ Elf e) × (first_fault bytes ≡ Some (number_of e))) c.list.ensures c.in_err-image.ensures.fault))
 
@@ -26,7 +26,7 @@ returns-in-Err-Budget g c =
 
 pub returns-in_err-write_parts : goal.returns-in_err-write_parts
 returns-in_err-write_parts g c =
-    rw (handed_on c.from_residual-in_err-write_parts.result c.in_err-write_parts.field-0.0 c.from_residual-in_err-write_parts.ensures)
+    rw (handed_on c.from_residual-in_err-write_parts.result c.in_err-write_parts.field-0.0 c.from_residual-in_err-write_parts.ensures.1)
     (run_breaks _ _ _ _ c.in_ok-loaded.loaded c.in-Ok.ran.steps c.in-Ok.ran.end c.in-Ok.ran.output c.in_err-write_parts.field-0.0 c.in_ok-loaded.ensures
     (subst (λ bytes. first_fault bytes ≡ None) c.list.ensures c.in_ok-image.ensures.faultless)
     (as_run c.in_ok-image.image (image c.args.words.now.version c.in_ok-loaded.loaded.elf) c.list-2.result.now c.in_ok-loaded.loaded.input c.args.words.now.budget c.in-Ok.ran.steps c.in-Ok.ran.end c.in-Ok.ran.output
