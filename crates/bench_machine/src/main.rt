@@ -2,9 +2,11 @@
 //! takes N steps of three programs and prints times; with no word it takes four steps of the first.
 #![tactic(auto)]
 
-use rv_base::{NoMemory, set32};
+ghost use Rattle.std.specs.Prelude.{◌≤◌, length, IfOk};
+
+use rv_base::NoMemory;
 use rv_decode::decode;
-use rv_elf::read;
+use rv_elf::{Part, read, write};
 use rv_isa::{Machine, Turn};
 use std::alloc::Global;
 use std::time::Instant;
@@ -25,30 +27,32 @@ const ONE_WORD: [u32; 5] = [
 /// Stores each word from 0x20000 on.
 const NEW_WORDS: [u32; 4] = [0x0002_02B7, 0x0062_A023, 0x0042_8293, 0xFF9F_F06F];
 
-/// The header of an executable with its entry at 0x10000, and the header of one segment there, which begins at byte 84.
-const HEADERS: [u8; 84] = [
-    0x7F, 0x45, 0x4C, 0x46, 0x01, 0x01, 0x01, 0x00, 0x00, 0x00, 0x00, 0x00, 0x00, 0x00, 0x00, 0x00,
-    0x02, 0x00, 0xF3, 0x00, 0x01, 0x00, 0x00, 0x00, 0x00, 0x00, 0x01, 0x00, 0x34, 0x00, 0x00, 0x00,
-    0x00, 0x00, 0x00, 0x00, 0x00, 0x00, 0x00, 0x00, 0x34, 0x00, 0x20, 0x00, 0x01, 0x00, 0x00, 0x00,
-    0x00, 0x00, 0x00, 0x00, 0x01, 0x00, 0x00, 0x00, 0x54, 0x00, 0x00, 0x00, 0x00, 0x00, 0x01, 0x00,
-    0x00, 0x00, 0x01, 0x00, 0x14, 0x00, 0x00, 0x00, 0x14, 0x00, 0x00, 0x00, 0x07, 0x00, 0x00, 0x00,
-    0x04, 0x00, 0x00, 0x00,
-];
-
-/// The executable of at most five words, in a segment of 20 bytes.
-fn executable(words: &[u32]) -> [u8; 104] {
-    let mut file = [0u8; 104];
-    file[..84].copy_from_slice(&HEADERS);
-    for (i, word) in words.iter().enumerate().take(5) {
-        set32(&mut file, 84 + 4 * i, *word);
+/// The executable of some words at 0x10000.
+fn executable(alloc: Global, words: &[u32]) -> Result<Vec<u8>, NoMemory>
+    requires { length words.now ≤ 100 }
+    ensures { IfOk result (λ file. length file.items ≤ 1000) }
+{
+    let mut bytes = Vec::new(alloc);
+    for word in words {
+        let Ok(()) = bytes.extend_from_slice(&word.to_le_bytes()) else {
+            return Err(NoMemory);
+        };
     }
-    file
+    let len = 4 * words.len() as u32;
+    let part = Part {
+        addr: 0x10000,
+        len,
+        size: len,
+    };
+    write(alloc, 0x10000, &[part], bytes.as_slice())
 }
 
 /// Takes so many steps, and gives the number of those after which the run went on.
-fn steps_of(alloc: Global, words: &[u32], steps: u32) -> Result<u32, NoMemory> {
-    let file = executable(words);
-    let Ok(image) = read(&file) else {
+fn steps_of(alloc: Global, words: &[u32], steps: u32) -> Result<u32, NoMemory>
+    requires { length words.now ≤ 100 }
+{
+    let file = executable(alloc, words)?;
+    let Ok(image) = read(file.as_slice()) else {
         return Ok(0);
     };
     let mut machine = Machine::start(alloc, &image, &[]);
