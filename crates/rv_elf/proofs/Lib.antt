@@ -8,3 +8,4 @@ pub mod WriterLaws
 pub mod WrittenLaws
 pub mod PartLaws
 pub mod ProgramLaws
+pub mod Lemmas

@@ -3,3 +3,4 @@ pub mod Segments
 pub mod Index
 pub mod Loaded
 pub mod Written
+pub mod Programs

@@ -6,6 +6,7 @@
 mod fault;
 mod image;
 mod index;
+pub mod laws;
 mod reader;
 mod scan;
 mod segment;

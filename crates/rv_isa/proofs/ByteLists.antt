@@ -24,7 +24,7 @@ pub bytes-are : (bytes : List ℕ) → ((i : ℕ) → get_or bytes i 0 < 2 ^ 8) 
 bytes-are [] fits = tt
 bytes-are (b ∷ bytes) fits = (fits 0, bytes-are bytes (λ i. fits (suc i)))
 
-append-bytes : (xs ys : List ℕ) → AreBytes xs → AreBytes ys → AreBytes (xs ++ ys)
+pub append-bytes : (xs ys : List ℕ) → AreBytes xs → AreBytes ys → AreBytes (xs ++ ys)
 append-bytes [] ys h k = k
 append-bytes (x ∷ xs) ys h k = (h.0, append-bytes xs ys h.1 k)
 

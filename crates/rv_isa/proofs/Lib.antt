@@ -24,3 +24,9 @@ mod Seeing
 mod Placed
 mod Stepping
 mod MachineLaws
+mod ExpectedCovers
+mod ExpectedShape
+mod TurnRanges
+mod UsesAreCells
+mod RunRanges
+pub mod Lemmas

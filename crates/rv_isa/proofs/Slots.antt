@@ -14,12 +14,8 @@ use Rattle.rv_spec.specs.Chain.{AllDiffer}
 use Rattle.rv_spec.specs.Cells.{register_cell, reservation_cell}
 use Rattle.rv_spec.specs.Touches.{Use, use_of, use_register, use_buffer, where_aligned, argument_uses, call_uses, uses, aligned_atomic_uses, atomic_uses, instruction_uses}
 use Rattle.rv_spec.specs.RowRules.{old_in, seen}
+pub use Rattle.rv_isa.specs.Ranges.{Rises}
 use Rattle.rv_isa.proofs.Uses.{in_slot}
-
--- the slots rise from lo on, and all are below hi
-abbrev pub Rises : ℕ → ℕ → List Use → Type 0
-Rises lo hi [] = lo ≤ hi
-Rises lo hi (u ∷ us) = (lo ≤ u.slot) × Rises (u.slot + 1) hi us
 
 from-lower : (lo mid hi : ℕ) (us : List Use) → lo ≤ mid → Rises mid hi us → Rises lo hi us
 from-lower lo mid hi [] h r = omega arith

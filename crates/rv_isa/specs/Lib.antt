@@ -6,3 +6,6 @@ pub mod Operands
 pub mod Sees
 pub mod Machine
 pub mod Shown
+pub mod Follows
+pub mod Shape
+pub mod Ranges
