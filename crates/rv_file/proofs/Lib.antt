@@ -11,3 +11,4 @@ pub mod ParseLaws
 pub mod HeaderChecks
 pub mod Showing
 pub mod FormSteps
+pub mod Lemmas

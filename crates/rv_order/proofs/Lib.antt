@@ -3,3 +3,4 @@ pub mod Differences
 pub mod LastUse
 pub mod Pigeonhole
 pub mod Converse
+pub mod Lemmas
