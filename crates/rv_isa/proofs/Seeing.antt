@@ -67,10 +67,10 @@ slot-shown o s v (suc (suc (suc (suc (suc (suc (suc zero))))))) h lo hi word hig
 slot-shown o s v (suc (suc (suc (suc (suc (suc (suc (suc zero)))))))) h lo hi word high = let b = high (λ e. absurd (omega arith)) in h.eight b.0 b.1
 slot-shown o s v (suc (suc (suc (suc (suc (suc (suc (suc (suc j))))))))) h lo hi word high = absurd (omega arith)
 
-pub sees-covered : (o : Operands) (s : State) (v : Seen) (us : List Use) → ShowsSlots o s v → AllByRecursion (IsCovered o s) us → ArePlaced us → Sees v s us
+pub sees-covered : (o : Operands) (s : State) (v : Seen) (us : List Use) → ShowsSlots o s v → AllByRecursion (IsCovered o s) us → ArePlaced s.version us → Sees v s us
 sees-covered o s v [] h k placed = tt
 sees-covered o s v (u ∷ us) h k placed =
-    let is : IsPlaced u = placed.0 in (
+    let is : IsPlaced s.version u = placed.0 in (
       slot-shown o s v u.slot h is.0 is.1 (λ e. subst (λ c. c < 2 ^ 30) k.0 (is.2 e)) (λ d. subst (λ c. (2 ^ 30 < c) × (c < 2 ^ 30 + 33)) k.0 (is.3 d))
           ∙ ap (value s) (sym k.0),
       sees-covered o s v us h k.1 placed.1,

@@ -141,15 +141,15 @@ module _ (input : List ℕ) (s : State) (is : IsState s) where
   unfolding touches
   accesses ts e = e ∙ map-map touch_of (visit s t) us
 
-  placed-use : (u : Use) → In u us → 2 ≤ u.slot → IsPlaced u
+  placed-use : (u : Use) → In u us → 2 ≤ u.slot → IsPlaced s.version u
   unfolding step_uses
   placed-use u (inl first) late = absurd (omega (arith, ap (λ z. z.slot) first))
-  placed-use u (inr m) late = all-in IsPlaced (instruction_uses input (decode_any s.version (fetch_word s)) s) (uses-placed input s is) u m
+  placed-use u (inr m) late = all-in (IsPlaced s.version) (instruction_uses input (decode_any s.version (fetch_word s)) s) (uses-placed input s is) u m
 
   placed-register : (j : ℕ) (w : Touch) → 7 ≤ j → access_in (made s t us) j ≡ Some w → IsRegister w.cell
   placed-register j w late e =
       let f = found-use s t j us w e in
-      let placed : IsPlaced f.0 = placed-use f.0 f.1 (omega (arith, f.3)) in
+      let placed : IsPlaced s.version f.0 = placed-use f.0 f.1 (omega (arith, f.3)) in
       let high : (2 ^ 30 < f.0.cell) × (f.0.cell < 2 ^ 30 + 33) = placed.3 (λ six. absurd (omega (arith, f.3))) in
       let cell : w.cell ≡ f.0.cell = ap (λ z. z.cell) f.2 in
       (omega arith, omega arith)
@@ -157,7 +157,7 @@ module _ (input : List ℕ) (s : State) (is : IsState s) where
   placed-word : (w : Touch) → access_in (made s t us) 6 ≡ Some w → w.cell < 2 ^ 30
   placed-word w e =
       let f = found-use s t 6 us w e in
-      let placed : IsPlaced f.0 = placed-use f.0 f.1 (omega (arith, f.3)) in
+      let placed : IsPlaced s.version f.0 = placed-use f.0 f.1 (omega (arith, f.3)) in
       let low : f.0.cell < 2 ^ 30 = placed.2 f.3 in
       let cell : w.cell ≡ f.0.cell = ap (λ z. z.cell) f.2 in
       omega arith
