@@ -1,0 +1,67 @@
+//! Laws of the machine that reads a record file phase by phase, with running sums in place of
+//! lists: it finds what the definition by whole parts finds, however the bytes are cut.
+//!
+//! Each law is the contract of a function that does nothing. They hold for every lanes, for both
+//! versions, and for form alone as for a program and an input.
+
+ghost use Rattle.std.specs.Prelude.{ℕ, Bool, List};
+ghost use Rattle.rv_base.specs.declared.Header.{Header};
+ghost use Rattle.rv_spec.specs.Digest.{Lanes};
+ghost use Rattle.rv_reading.specs.Judging.{CutsDontMatter, FrontIsJudged, FrontStaysRefused, JudgedIsRead, MachineIsStream, PiecesJoin, RefusalsStay, RefusedAtFront, StateTellsRefusals, StatesWait, VerdictBehindFront, VerdictIsTold};
+ghost use Rattle.rv_reading.specs.Parts.{EntriesAreRead, RowsAreRead, ShardAloneIsRead, ShardsAloneAreRead, ShardsAreRead, TableAloneIsRead};
+
+/// On a whole file the machine finds no broken check where the definition finds none, and else the
+/// same first broken check, with its place; so its verdict is that of the definition.
+pub fn file_is_judged()
+    ensures found { JudgedIsRead }
+    ensures verdict { VerdictIsTold }
+{}
+
+/// A file that begins with a header and its output is judged by these and then by what follows.
+pub fn front_is_judged()
+    ensures found { FrontIsJudged }
+    ensures verdict { VerdictBehindFront }
+{}
+
+/// Where the checks of header and output are broken, the file is refused so. By another rule than
+/// 1, whatever bytes follow.
+pub fn front_is_refused()
+    ensures whole { RefusedAtFront }
+    ensures stays { FrontStaysRefused }
+{}
+
+/// Each step takes a byte at least, and what it found stays so, whatever bytes follow.
+pub fn machine_is_stream()
+    ensures { (against : Bool) (lanes : Lanes) (elf input : List ℕ) (header : Header) (output : List ℕ) → MachineIsStream against lanes elf input header output }
+{}
+
+/// Cuts don't matter: a piece and then another leave the state that both joined leave, and what
+/// comes of a state behind a piece is what comes of the state before it with the piece in front.
+pub fn cuts_dont_matter()
+    ensures pieces { (against : Bool) (lanes : Lanes) (elf input : List ℕ) (header : Header) (output : List ℕ) → PiecesJoin against lanes elf input header output }
+    ensures outcome { (against : Bool) (lanes : Lanes) (elf input : List ℕ) (header : Header) (output : List ℕ) → CutsDontMatter against lanes elf input header output }
+{}
+
+/// A state is a refusal exactly where the bytes so far are refused by another rule than 1, and then
+/// they are refused so, whatever follows. A state that is none waits, with fewer than 256 bytes.
+pub fn state_tells()
+    ensures refusals { (against : Bool) (lanes : Lanes) (elf input : List ℕ) (header : Header) (output : List ℕ) → StateTellsRefusals against lanes elf input header output }
+    ensures stay { (against : Bool) (lanes : Lanes) (elf input : List ℕ) (header : Header) (output : List ℕ) → RefusalsStay against lanes elf input header output }
+    ensures waits { (against : Bool) (lanes : Lanes) (elf input : List ℕ) (header : Header) (output : List ℕ) → StatesWait against lanes elf input header output }
+{}
+
+/// Some rows, shards or entries of the table are read as by the definition, and the machine goes on
+/// behind them with the place, the bytes of the rows and the digests.
+pub fn parts_are_read()
+    ensures rows { (against : Bool) (lanes : Lanes) (elf input : List ℕ) (header : Header) (output : List ℕ) → RowsAreRead against lanes elf input header output }
+    ensures shards { (against : Bool) (lanes : Lanes) (elf input : List ℕ) (header : Header) (output : List ℕ) → ShardsAreRead against lanes elf input header output }
+    ensures entries { (against : Bool) (lanes : Lanes) (elf input : List ℕ) (header : Header) (output : List ℕ) → EntriesAreRead against lanes elf input header output }
+{}
+
+/// One shard alone, some shards alone, from any stated place, and the table alone are read as by the
+/// definition: the refusal, or the place behind them, the digests of their tuples and the bytes left.
+pub fn parts_alone_are_read()
+    ensures shard { (against : Bool) (lanes : Lanes) (elf input : List ℕ) (header : Header) (output : List ℕ) → ShardAloneIsRead against lanes elf input header output }
+    ensures shards { (against : Bool) (lanes : Lanes) (elf input : List ℕ) (header : Header) (output : List ℕ) → ShardsAloneAreRead against lanes elf input header output }
+    ensures table { (against : Bool) (lanes : Lanes) (elf input : List ℕ) (header : Header) (output : List ℕ) → TableAloneIsRead against lanes elf input header output }
+{}
