@@ -1,5 +1,5 @@
 -- The machine judges a file as the definition by whole parts does.
-use Rattle.std.proofs.Common.{◌≡◌, ℕ, zero, suc, ◌+◌, ◌*◌, ◌<◌, ◌≤◌, Bool, true, ◌&&◌, ◌||◌, ◌==◌, nat_le, bytes_eq, List, [], ◌∷◌, ◌++◌, length, map, take, drop, Option, Some, None, Result, Ok, Err, refl, sym, ap, ◌∙◌, arith}
+use Rattle.std.proofs.Common.{◌≡◌, ℕ, zero, suc, ◌+◌, ◌*◌, ◌<◌, ◌≤◌, Bool, true, ◌&&◌, ◌==◌, nat_le, List, [], ◌∷◌, ◌++◌, length, map, take, drop, Option, Some, None, Result, Ok, Err, refl, sym, ap, ◌∙◌, arith}
 use Rattle.std.specs.List.{flat_map}
 use Rattle.std.specs.Int.{div_ceil}
 use Rattle.std.proofs.lemmas.Bool.{eqb-true, leb-true, and_parts}
@@ -10,17 +10,17 @@ use Rattle.rv_base.specs.declared.record.Place.{Place}
 use Rattle.rv_base.specs.declared.record.Refusal.{Refusal}
 use Rattle.rv_base.specs.declared.record.TableEntry.{TableEntry}
 use Rattle.rv_spec.specs.Words.{u32_at}
-use Rattle.rv_spec.specs.Digest.{Lanes, digest}
+use Rattle.rv_spec.specs.Digest.{Lanes}
 use Rattle.rv_spec.specs.Lists.{Event, events, tuple_read, tuple_written, tuple_last}
 use Rattle.rv_spec.specs.Record.{Shard, Parts, reads as reads_of, writes as writes_of}
 use Rattle.rv_spec.specs.Checks.{Check, first_broken, unless_broken, ◌>>=◌}
-use Rattle.rv_spec.specs.Verdict.{verdict, verdict_of, judge}
-use Rattle.rv_spec.specs.Reading.{Reading, header_of, header_checks, full, read_shards, read_entries, end_checks, first_place, read_file}
+use Rattle.rv_spec.specs.Verdict.{verdict_of, judge}
+use Rattle.rv_spec.specs.Reading.{Reading, header_of, header_checks, read_shards, read_entries, end_checks, first_place, read_file}
 use Rattle.rv_reading.specs.Stream.{State, reads, onwards}
-use Rattle.rv_reading.specs.Machine.{Phase, no_sums, tuple_sums, event_sums, shards_events, first_tuple, last_cell, step, step_to, first_phase, judged, finding, told}
+use Rattle.rv_reading.specs.Machine.{Phase, no_sums, tuple_sums, event_sums, shards_events, first_tuple, last_cell, step, step_to, judged, finding, told}
 use Rattle.rv_reading.specs.Machine.Phase.{Shards, Rows, Entries}
 use Rattle.rv_reading.specs.Machine.Extent.{WholeFile}
-use Rattle.rv_reading.specs.Parts.{runs}
+use Rattle.rv_reading.specs.Parts.{runs, WholeFileIsRead}
 use Rattle.rv_reading.specs.Judging.{JudgedIsRead, VerdictIsTold}
 use Rattle.rv_reading.proofs.Kept.{refused_by_ok, all_hold}
 use Rattle.rv_reading.proofs.Binding.{bind_assoc, bind_same, bind_ok, checks_bind, checks_same}
@@ -115,6 +115,9 @@ module _ (against : Bool) (lanes : Lanes) (elf input : List ℕ) (h : Header) (o
   step_to_file (Entries zero j before p all) xs = refl
   step_to_file (Entries (suc n) j before p all) xs = refl
 
+  pub whole_file_is_read : WholeFileIsRead against lanes elf input h output
+  whole_file_is_read p bytes = λ t. reads (λ q zs. step_to_file q zs t) p bytes
+
 module _ (against : Bool) (lanes : Lanes) (elf input : List ℕ) where
   more_than : (i q size steps : ℕ) → i + 2 ≤ q → q * size < steps + size → i * size + size ≤ steps
   more_than i q size steps le lt =
@@ -147,7 +150,7 @@ module _ (against : Bool) (lanes : Lanes) (elf input : List ℕ) where
       ∙ checks_same 0 0 cs (drop 173 file) (λ z. finding (machine z)) (λ z. finding (whole z)) (λ e.
       let output = take h.length (drop 173 file) in
       let bytes = drop h.length (drop 173 file) in
-      sym (λ t. finding (reads (λ q zs. step_to_file against lanes elf input h output q zs t) (Shards h.shards 0 p no_sums) bytes)) ∙ shards_and_table_are_read against lanes elf input h output p bytes (shards_are_full file e))
+      sym (ap finding (whole_file_is_read against lanes elf input h output (Shards h.shards 0 p no_sums) bytes)) ∙ shards_and_table_are_read against lanes elf input h output p bytes (shards_are_full file e))
       ∙ sym (bind_assoc front whole seen)
 
   -- the header of the parts is that of the file

@@ -1,5 +1,5 @@
 -- A file is judged by its header and output, and then by what the machine reads.
-use Rattle.std.proofs.Common.{◌≡◌, ℕ, ◌+◌, ◌≤◌, Bool, true, cond, ◌==◌, ◌&&◌, ◌||◌, nat_le, bytes_eq, List, [], ◌∷◌, ◌++◌, length, take, drop, Err, refl, sym, ap, subst, ◌∙◌, arith}
+use Rattle.std.proofs.Common.{◌≡◌, ℕ, ◌+◌, ◌≤◌, Bool, true, ◌==◌, ◌&&◌, ◌||◌, nat_le, bytes_eq, List, [], ◌∷◌, ◌++◌, length, take, drop, Err, refl, sym, ap, subst, ◌∙◌, arith}
 use Rattle.std.specs.Int.{div_ceil, is_in_range}
 use Rattle.std.proofs.lemmas.Bool.{le-leb}
 use Rattle.std.proofs.lemmas.List.{length-append, length-drop, drop-append-le, take-append-le, take_at, drop_at}
@@ -8,42 +8,15 @@ use Rattle.rv_base.specs.declared.record.Header.{Header}
 use Rattle.rv_base.specs.declared.record.Refusal.{Refusal}
 use Rattle.rv_spec.specs.Digest.{Lanes}
 use Rattle.rv_spec.specs.Record.{magic}
-use Rattle.rv_spec.specs.Checks.{Check, unless_broken, ◌>>=◌}
+use Rattle.rv_spec.specs.Checks.{Check, first_broken, unless_broken, ◌>>=◌}
 use Rattle.rv_spec.specs.Reading.{header_of, header_checks, full}
 use Rattle.rv_reading.specs.Stream.{State, reads}
-use Rattle.rv_reading.specs.Machine.{Phase, step, first_phase, opened, judged, told}
-use Rattle.rv_reading.specs.Judging.{IsFront, outcome_behind, FrontIsJudged, VerdictBehindFront, RefusedAtFront, FrontStaysRefused}
-use Rattle.rv_reading.proofs.Kept.{Keeps, keeps_after, room, refusal_kept}
-use Rattle.rv_reading.proofs.Fronts.{u32_front, u64_front, byte_front}
+use Rattle.rv_reading.specs.Machine.{Phase, step, first_phase, opened, told}
+use Rattle.rv_reading.specs.Judging.{IsFront, FrontIsJudged, VerdictBehindFront, RefusedAtFront, FrontStaysRefused}
+use Rattle.rv_reading.proofs.Kept.{refused_by_err, Keeps, keeps_after, room, refusal_kept, Passed, passed_some, there, others_before}
+use Rattle.rv_reading.proofs.Fronts.{header_front}
 use Rattle.rv_reading.proofs.Binding.{checks_bind, checks_refuse}
 use Rattle.rv_reading.proofs.FileRead.{verdict_is_told}
-
-part_front : (xs ys : List ℕ) (n k : ℕ) → n + k ≤ length xs → take k (drop n (xs ++ ys)) ≡ take k (drop n xs)
-part_front xs ys n k room = ap (λ (zs : List ℕ). take k zs) (drop-append-le n xs ys (omega (arith, room))) ∙ take-append-le k (drop n xs) ys (omega (arith, room, length-drop n xs))
-
-header_front : (xs ys : List ℕ) → 173 ≤ length xs → header_of (xs ++ ys) ≡ header_of xs
-header_front xs ys room =
-    let version = ap (λ b. cond (b == 0x32) 2 1) (byte_front xs ys 7 (omega (arith, room))) in
-    let elf = part_front xs ys 8 64 (omega (arith, room)) in
-    let input = part_front xs ys 72 64 (omega (arith, room)) in
-    let size = u32_front xs ys 136 (omega (arith, room)) in
-    let steps = u64_front xs ys 140 (omega (arith, room)) in
-    let shards = u32_front xs ys 148 (omega (arith, room)) in
-    let kind = byte_front xs ys 152 (omega (arith, room)) in
-    let code = u32_front xs ys 153 (omega (arith, room)) in
-    let consumed = u64_front xs ys 157 (omega (arith, room)) in
-    let long = u64_front xs ys 165 (omega (arith, room)) in
-    λ i. record {
-      version = version i;
-      elf = elf i;
-      input = input i;
-      size = size i;
-      steps = steps i;
-      shards = shards i;
-      end = record { kind = kind i; code = code i };
-      consumed = consumed i;
-      length = long i;
-    }
 
 module _ (against : Bool) (lanes : Lanes) (elf input : List ℕ) where
   -- the checks of a header but those of rule 1
@@ -80,6 +53,20 @@ module _ (against : Bool) (lanes : Lanes) (elf input : List ℕ) where
       subst (λ (ms : List Check). Keeps (rest xs) (ms ++ last (header_of (xs ++ ys)) (xs ++ ys))) mid
       (keeps_after (middle (header_of xs) (take 8 xs)) (last (header_of xs) xs) (last (header_of (xs ++ ys)) (xs ++ ys))
       (room (173 + (header_of xs).length) (173 + (header_of (xs ++ ys)).length) xs ys [] [] (ap (λ (z : Header). 173 + z.length) (sym h)) (λ _. tt))))
+
+  -- a front has bytes enough for its header and output
+  passed_header : (front : List ℕ) → IsFront front → Passed (header_checks against lanes elf input front)
+  passed_header front size =
+      let h = header_of front in
+      let last : List Check = (1, nat_le (173 + h.length) (length front)) ∷ [] in
+      there 173 front (middle h (take 8 front) ++ last) (omega (arith, size))
+      (others_before (middle h (take 8 front)) last refl (there (173 + h.length) front [] (omega (arith, size)) tt))
+
+  pub front_has_room : (front : List ℕ) (r : Refusal) → IsFront front → opened against lanes elf input front ≡ Err r → ¬ (r.rule ≡ 1)
+  front_has_room front r size e one =
+      let checks = header_checks against lanes elf input front in
+      let o = refused_by_err 0 0 (first_broken checks) (first_phase against lanes elf input (header_of front), []) r e in
+      passed_some checks o.0 (passed_header front size) o.1 (ap (λ (z : Refusal). z.rule) o.2 ∙ one)
 
 -- Header and output in front, and then any bytes.
 pub front_is_judged : FrontIsJudged

@@ -1,5 +1,5 @@
 -- Lists of checks, and those that keep what they found when more bytes come.
-use Rattle.std.proofs.Common.{◌≡◌, ℕ, ◌≤◌, Bool, true, false, cond, nat_le, not, ◌==◌, ◌&&◌, List, [], ◌∷◌, ◌++◌, length, Option, Some, None, Result, Ok, Err, refl, sym, ap, subst, ◌∙◌, true≢false, arith}
+use Rattle.std.proofs.Common.{◌≡◌, ℕ, ◌≤◌, Bool, true, false, cond, nat_le, not, ◌==◌, ◌&&◌, List, [], ◌∷◌, ◌++◌, length, Option, Some, None, Ok, Err, refl, sym, ap, subst, ◌∙◌, true≢false, arith}
 use Rattle.std.proofs.lemmas.Bool.{leb-true, le-leb, eqb-false, not-true, and_parts}
 use Rattle.std.proofs.lemmas.List.{length-append}
 use Rattle.rv_base.specs.declared.record.Refusal.{Refusal}
@@ -47,7 +47,7 @@ keeps_none (c ∷ cs) (d ∷ ds) k e = go c.1 refl e (keeps_none cs ds)
     go true f g later = ap (λ b. cond b (first_broken ds) (Some d.0)) ((k.1 f).0) ∙ later (k.1 f).1 g
     go false f g later = absurd cc
 
-pub keeps_some : (cs ds : List Check) (rule : ℕ) → Keeps cs ds → first_broken cs ≡ Some rule → ¬ (rule ≡ 1) → first_broken ds ≡ Some rule
+keeps_some : (cs ds : List Check) (rule : ℕ) → Keeps cs ds → first_broken cs ≡ Some rule → ¬ (rule ≡ 1) → first_broken ds ≡ Some rule
 keeps_some [] [] rule k e not = absurd cc
 keeps_some [] (d ∷ ds) rule k e not = absurd k
 keeps_some (c ∷ cs) [] rule k e not = absurd k
@@ -74,7 +74,7 @@ room n m xs ys cs ds is k = (
   λ f not. absurd (not refl),
 )
 
-pub keeps_refl : (cs : List Check) → Keeps cs cs
+keeps_refl : (cs : List Check) → Keeps cs cs
 keeps_refl [] = tt
 keeps_refl (c ∷ cs) = (refl, λ t. (t, keeps_refl cs), λ f not. f)
 
@@ -124,3 +124,10 @@ others (c ∷ cs) e = let parts = and_parts (not (c.0 == 1)) (are_others cs) e i
 -- a check that there are this many bytes, where there are
 pub there : (n : ℕ) (xs : List ℕ) (cs : List Check) → n ≤ length xs → Passed cs → Passed ((1, nat_le n (length xs)) ∷ cs)
 there n xs cs le later = (λ _. le-leb n (length xs) le, λ _. later)
+
+-- checks of other rules in front
+pub others_before : (ms cs : List Check) → are_others ms ≡ true → Passed cs → Passed (ms ++ cs)
+others_before [] cs e passed = passed
+others_before (m ∷ ms) cs e passed =
+    let parts = and_parts (not (m.0 == 1)) (are_others ms) e in
+    (λ one. absurd (eqb-false m.0 1 (not-true (m.0 == 1) parts.0) one), λ _. others_before ms cs parts.1 passed)

@@ -5,7 +5,7 @@ use Rattle.rv_base.specs.declared.record.Tuple.{Tuple}
 use Rattle.rv_spec.specs.Digest.{Lanes, digest, digest_lane, add_lanes}
 use Rattle.rv_spec.specs.Lists.{Event, tuple_read, tuple_written}
 use Rattle.rv_spec.proofs.DigestLaws.{digest-append}
-use Rattle.rv_reading.specs.Machine.{Sums, no_sums, tuple_sums, event_sums, with_tuples, with_events, with_sums}
+use Rattle.rv_reading.specs.Machine.{no_sums, tuple_sums, event_sums, with_tuples, with_events, with_sums}
 
 module _ (against : Bool) (lanes : Lanes) where
   more : (a : Bool) (xs ys : List Tuple) → cond a (add_lanes (cond a (digest lanes xs) (replicate 16 0)) (digest lanes ys)) (cond a (digest lanes xs) (replicate 16 0)) ≡ cond a (digest lanes (xs ++ ys)) (replicate 16 0)

@@ -1,5 +1,5 @@
 -- The events of a file's shards, each counted from the first step that is due in it, are those of all its rows.
-use Rattle.std.proofs.Common.{◌≡◌, ℕ, zero, suc, ◌+◌, ◌*◌, ◌<◌, ◌≤◌, Bool, ◌&&◌, ◌==◌, nat_le, List, [], ◌∷◌, ◌++◌, length, map, drop, Option, Some, None, Result, Ok, Err, refl, sym, ap, subst, ◌∙◌, append_assoc, arith}
+use Rattle.std.proofs.Common.{◌≡◌, ℕ, zero, suc, ◌+◌, ◌*◌, ◌<◌, ◌≤◌, Bool, ◌&&◌, ◌==◌, nat_le, List, [], ◌∷◌, ◌++◌, length, map, drop, Result, Ok, refl, sym, ap, subst, ◌∙◌, append_assoc, arith}
 use Rattle.std.specs.List.{flat_map}
 use Rattle.rv_base.specs.declared.record.Header.{Header}
 use Rattle.rv_base.specs.declared.record.Place.{Place}
@@ -8,7 +8,7 @@ use Rattle.rv_spec.specs.Trace.{Row}
 use Rattle.rv_spec.specs.Digest.{Lanes}
 use Rattle.rv_spec.specs.Lists.{event, events}
 use Rattle.rv_spec.specs.Record.{Shard, shard_rows, rows_length}
-use Rattle.rv_spec.specs.Checks.{Check, first_broken, refused_by, unless_broken, ◌>>=◌}
+use Rattle.rv_spec.specs.Checks.{Check, first_broken, unless_broken, ◌>>=◌}
 use Rattle.rv_spec.specs.Reading.{Reading, head_of, same_place, full, read_row, read_rows, read_shard, read_shards}
 use Rattle.rv_reading.specs.Machine.{shards_events}
 use Rattle.rv_reading.proofs.Kept.{refused_by_ok}
@@ -38,7 +38,8 @@ module _ (against : Bool) (lanes : Lanes) (elf input : List ℕ) where
       let put : Reading Row → Reading (List Row) → Reading (List Row) = λ first others. record { part = first.part ∷ others.part; place = others.place; left = others.left } in
       let a = bind_ok (read_row against lanes elf input h output i r p bytes) (λ first. read_rows against lanes elf input n h output i (r + 1) first.place first.left >>= λ others. Ok (put first others)) x e in
       let b = bind_ok (read_rows against lanes elf input n h output i (r + 1) a.0.place a.0.left) (λ others. Ok (put a.0 others)) x a.2 in
-      ap (λ (z : Reading (List Row)). length z.part) (sym (ok_is (put a.0 b.0) x b.2)) ∙ ap suc (rows_count n h output i (r + 1) a.0.place a.0.left b.0 b.1)
+      let count : length b.0.part ≡ n = rows_count n h output i (r + 1) a.0.place a.0.left b.0 b.1 in
+      ap (λ (z : Reading (List Row)). length z.part) (sym (ok_is (put a.0 b.0) x b.2)) ∙ ap suc count
 
   shard_count : (h : Header) (output : List ℕ) (i : ℕ) (p : Place) (bytes : List ℕ) (x : Reading Shard) → read_shard against lanes elf input h output i p bytes ≡ Ok x → length x.part.rows ≡ shard_rows h.size h.steps i
   unfolding read_shard

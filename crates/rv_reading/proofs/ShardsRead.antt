@@ -12,7 +12,7 @@ use Rattle.rv_spec.specs.Record.{Shard, shard_rows, rows_length}
 use Rattle.rv_spec.specs.Checks.{Check, unless_broken, ◌>>=◌}
 use Rattle.rv_spec.specs.Reading.{Reading, head_of, digest_of, same_place, full, read_rows, read_shard, read_shards}
 use Rattle.rv_reading.specs.Stream.{State, onwards}
-use Rattle.rv_reading.specs.Machine.{Sums, no_sums, Inside, Phase, Extent, on_if, with_sums, begin_shard, good_digests, event_sums, shards_events, step}
+use Rattle.rv_reading.specs.Machine.{Sums, Inside, Phase, Extent, on_if, with_sums, begin_shard, good_digests, event_sums, shards_events, step}
 use Rattle.rv_reading.specs.Machine.Phase.{Shards, Rows}
 use Rattle.rv_reading.specs.Machine.Extent.{ShardsAlone}
 use Rattle.rv_reading.specs.Parts.{runs, inside, ShardsAreRead, ShardAloneIsRead, ShardsAloneAreRead}

@@ -1,5 +1,5 @@
 -- What the machine found stays so, whatever bytes come behind.
-use Rattle.std.proofs.Common.{◌≡◌, ℕ, zero, suc, ◌+◌, ◌*◌, ◌<◌, ◌≤◌, Bool, true, false, cond, ◌==◌, ◌&&◌, nat_le, nat_lt, bytes_eq, List, [], ◌∷◌, ◌++◌, length, get_or, drop, Option, Some, None, Result, Ok, Err, refl, sym, ap, subst, ◌∙◌, arith}
+use Rattle.std.proofs.Common.{◌≡◌, ℕ, zero, suc, ◌+◌, ◌*◌, ◌<◌, ◌≤◌, Bool, true, false, ◌==◌, ◌&&◌, nat_le, nat_lt, bytes_eq, List, [], ◌∷◌, ◌++◌, length, get_or, drop, Option, Some, None, Ok, Err, refl, sym, ap, subst, ◌∙◌, arith}
 use Rattle.std.specs.Int.{is_in_range}
 use Rattle.std.proofs.lemmas.Bool.{leb-true, eqb-true}
 use Rattle.std.proofs.lemmas.List.{length-drop, drop-append-le}
@@ -25,10 +25,10 @@ some_is : {A : Type 0} (x y : A) → Some x ≡ Some y → x ≡ y
 some_is x y e = cc
 
 -- what a step found now, and later with more bytes behind
-pub record Case (now later : Found Phase) (xs ys : List ℕ) : Type 0 where
-  pub takes : (q : Phase) (rest : List ℕ) → now ≡ Ok (Some (q, rest)) → length rest < length xs
-  pub goes : (q : Phase) (rest : List ℕ) → now ≡ Ok (Some (q, rest)) → later ≡ Ok (Some (q, rest ++ ys))
-  pub stays : (r : Refusal) → now ≡ Err r → ¬ (r.rule ≡ 1) → later ≡ Err r
+record Case (now later : Found Phase) (xs ys : List ℕ) : Type 0 where
+  takes : (q : Phase) (rest : List ℕ) → now ≡ Ok (Some (q, rest)) → length rest < length xs
+  goes : (q : Phase) (rest : List ℕ) → now ≡ Ok (Some (q, rest)) → later ≡ Ok (Some (q, rest ++ ys))
+  stays : (r : Refusal) → now ≡ Err r → ¬ (r.rule ≡ 1) → later ≡ Err r
 
 -- where the checks hold, as many bytes are taken now as later, and the phase is the same
 abbrev Fits : List Check → Phase → Phase → ℕ → ℕ → List ℕ → Type 0
@@ -49,7 +49,7 @@ case_of i r cs ds q d n m xs ys k fit = record {
       let phase : d ≡ p = f.3 ∙ ap (λ (z : Phase × List ℕ). z.0) pair in
       let is : drop n xs ≡ rest = ap (λ (z : Phase × List ℕ). z.1) pair in
       let left : drop m (xs ++ ys) ≡ rest ++ ys = ap (λ j. drop j (xs ++ ys)) f.2 ∙ drop-append-le n xs ys f.1 ∙ ap (λ (zs : List ℕ). zs ++ ys) is in
-      ap (λ x. refused_by i r x (Some (d, drop m (xs ++ ys)))) (keeps_none cs ds k o.0) ∙ (λ t. Ok (Some (phase t, left t)));
+      λ t. refused_by i r (keeps_none cs ds k o.0 t) (Some (phase t, left t));
   stays = λ e is not. refusal_kept i r cs ds (Some (q, drop n xs)) (Some (d, drop m (xs ++ ys))) e k is not;
 }
 
@@ -89,7 +89,7 @@ module _ (against : Bool) (lanes : Lanes) (elf input : List ℕ) (h : Header) (o
       go true true true d e to is = absurd cc
       go true true false d e to is = ap (λ z. end true true z) (to refl) ∙ is
 
-  pub case : (p : Phase) (xs ys : List ℕ) → Case (step against lanes elf input h output p xs) (step against lanes elf input h output p (xs ++ ys)) xs ys
+  case : (p : Phase) (xs ys : List ℕ) → Case (step against lanes elf input h output p xs) (step against lanes elf input h output p (xs ++ ys)) xs ys
   unfolding step
   case (Shards zero i p all) xs ys =
       let cs : List ℕ → List Check = λ bytes. (1, nat_le 4 (length bytes)) ∷ [] in

@@ -1,10 +1,9 @@
 -- A phase waits with fewer than 256 bytes.
-use Rattle.std.proofs.Common.{◌≡◌, ℕ, zero, suc, ◌+◌, ◌*◌, ◌<◌, ◌≤◌, Bool, true, false, ◌==◌, ◌&&◌, nat_le, nat_lt, bytes_eq, List, [], ◌∷◌, length, get_or, Option, Some, None, Result, Ok, Err, refl, sym, ◌∙◌, inl, inr, arith}
+use Rattle.std.proofs.Common.{◌≡◌, ℕ, zero, suc, ◌+◌, ◌*◌, ◌<◌, ◌≤◌, Bool, true, false, ◌==◌, ◌&&◌, nat_le, nat_lt, bytes_eq, List, [], ◌∷◌, length, get_or, Option, Some, None, Ok, refl, inl, inr, arith}
 use Rattle.std.specs.Int.{is_in_range}
 use Rattle.std.proofs.lemmas.Bool.{leb-true, eqb-true, cases_lt, and_parts}
 use Rattle.rv_base.specs.declared.record.Header.{Header}
 use Rattle.rv_base.specs.declared.record.Place.{Place}
-use Rattle.rv_base.specs.declared.record.Refusal.{Refusal}
 use Rattle.rv_spec.specs.RowRules.{row_checks}
 use Rattle.rv_spec.specs.Trace.{Row}
 use Rattle.rv_spec.specs.Digest.{Lanes}

@@ -1,5 +1,5 @@
 -- The laws of readers that go on from phase to phase.
-use Rattle.std.proofs.Common.{◌≡◌, ℕ, zero, suc, ◌<◌, Bool, true, false, cond, ◌==◌, List, [], ◌++◌, length, Option, Some, None, Result, Ok, Err, refl, sym, ap, ◌∙◌, append_assoc, arith}
+use Rattle.std.proofs.Common.{◌≡◌, ℕ, zero, suc, ◌<◌, Bool, true, false, cond, ◌==◌, List, [], ◌++◌, length, Some, None, Ok, Err, refl, sym, ap, ◌∙◌, append_assoc, arith}
 use Rattle.std.proofs.lemmas.Bool.{eqb-true, eqb-false}
 use Rattle.std.proofs.lemmas.List.{append-nil}
 use Rattle.rv_base.specs.declared.record.Refusal.{Refusal}
@@ -12,7 +12,7 @@ abbrev refusal : (P : Type 0) → Refusal → Found P
 refusal P r = Err r
 
 module _ {P : Type 0} where
-  pub patient_goes : (s : Found P) (x : P × List ℕ) → with_patience s ≡ Ok (Some x) → s ≡ Ok (Some x)
+  patient_goes : (s : Found P) (x : P × List ℕ) → with_patience s ≡ Ok (Some x) → s ≡ Ok (Some x)
   patient_goes (Ok y) x e = e
   patient_goes (Err r) x e = go (r.rule == 1) e
     where
@@ -63,6 +63,14 @@ module _ {P : Type 0} (step : StepOf P) (is : IsStream P step) where
   reads-step_is : (p : P) (xs : List ℕ) (s : Found P) → step p xs ≡ s → reads step p xs ≡ (s >>= onwards (reads step) (p, xs))
   reads-step_is p xs s e = reads-step p xs ∙ ap (λ z. z >>= onwards (reads step) (p, xs)) e
 
+  -- where a step goes on, so does the reading with more bytes behind
+  pub reads-goes : (p q : P) (xs left rest : List ℕ) → step p xs ≡ Ok (Some (q, left)) → reads step p (xs ++ rest) ≡ reads step q (left ++ rest)
+  reads-goes p q xs left rest e = reads-step_is p (xs ++ rest) (Ok (Some (q, left ++ rest))) (is.goes p q xs left rest e)
+
+  -- where a step refuses by another rule than 1, so does the reading with more bytes behind
+  pub reads-stops : (p : P) (xs rest : List ℕ) (r : Refusal) → step p xs ≡ Err r → ¬ (r.rule ≡ 1) → reads step p (xs ++ rest) ≡ Err r
+  reads-stops p xs rest r e not = reads-step_is p (xs ++ rest) (Err r) (is.stays p xs rest r e not)
+
   ends_in : (n : ℕ) (p : P) (xs : List ℕ) (x : P × List ℕ) → length xs < n → reads step p xs ≡ Ok x → step x.0 x.1 ≡ Ok None
   ends_in zero p xs x a e = absurd (omega (arith, a))
   ends_in (suc n) p xs x a e = go (step p xs) refl (sym (reads-step p xs) ∙ e) (ends_in n)
@@ -74,11 +82,11 @@ module _ {P : Type 0} (step : StepOf P) (is : IsStream P step) where
       go (Ok (Some y)) f g later = let less = is.takes p y.0 xs y.1 f in later y.0 y.1 x (omega (arith, less, a)) g
 
   -- Reading ends where the step says that it may.
-  pub reads_ends : (p : P) (xs : List ℕ) (x : P × List ℕ) → reads step p xs ≡ Ok x → step x.0 x.1 ≡ Ok None
+  reads_ends : (p : P) (xs : List ℕ) (x : P × List ℕ) → reads step p xs ≡ Ok x → step x.0 x.1 ≡ Ok None
   reads_ends p xs x e = ends_in (suc (length xs)) p xs x (omega arith) e
 
   -- the step that waits for bytes is a stream too
-  pub patient-is_stream : IsStream P (patient step)
+  patient-is_stream : IsStream P (patient step)
   patient-is_stream = record {
     takes = λ p q xs rest e. is.takes p q xs rest (patient_goes (step p xs) (q, rest) e);
     goes = λ p q xs rest ys e. ap with_patience (is.goes p q xs rest ys (patient_goes (step p xs) (q, rest) e));

@@ -2,7 +2,6 @@
 use Rattle.std.specs.Prelude.{◌≡◌, ◌↔◌, ◌<◌, ℕ, ◌+◌, true, Bool, List, ◌++◌, length, drop, None, Ok, Err}
 use Rattle.rv_base.specs.declared.record.Header.{Header}
 use Rattle.rv_base.specs.declared.record.Refusal.{Refusal}
-use Rattle.rv_base.specs.declared.record.Verdict.TheVariants.{Refuse}
 use Rattle.rv_spec.specs.Digest.{Lanes}
 use Rattle.rv_spec.specs.Reading.{header_of, read_file}
 use Rattle.rv_spec.specs.Verdict.{verdict}
@@ -43,7 +42,29 @@ abbrev pub FrontStaysRefused : Type 0
 FrontStaysRefused = (against : Bool) (lanes : Lanes) (elf input front bytes : List ℕ) (r : Refusal)
     → opened against lanes elf input front ≡ Err r → ¬ (r.rule ≡ 1) → judged against lanes elf input (front ++ bytes) ≡ Err r
 
--- ---- in pieces
+-- ---- the state after some bytes
+
+-- the state behind a front and then these bytes
+abbrev pub state_behind : Bool → Lanes → List ℕ → List ℕ → List ℕ → List ℕ → State Phase
+state_behind against lanes elf input front bytes = feed (step against lanes elf input (header_of front) (drop 173 front)) (opened against lanes elf input front) bytes
+
+-- The state is a refusal exactly where the file's bytes so far are refused by another rule than 1.
+abbrev pub StateTellsFile : Type 0
+StateTellsFile = (against : Bool) (lanes : Lanes) (elf input front bytes : List ℕ) (r : Refusal)
+    → IsFront front → (state_behind against lanes elf input front bytes ≡ Err r) ↔ ((judged against lanes elf input (front ++ bytes) ≡ Err r) × (¬ (r.rule ≡ 1)))
+
+-- Then the file is refused so, whatever follows.
+abbrev pub FileStaysRefused : Type 0
+FileStaysRefused = (against : Bool) (lanes : Lanes) (elf input front bytes more : List ℕ) (r : Refusal)
+    → IsFront front → state_behind against lanes elf input front bytes ≡ Err r → judged against lanes elf input (front ++ (bytes ++ more)) ≡ Err r
+
+-- Else it waits for bytes, or may end there, and it holds fewer than 256 bytes.
+abbrev pub FileStateWaits : Type 0
+FileStateWaits = (against : Bool) (lanes : Lanes) (elf input front bytes : List ℕ) (s : Phase × List ℕ)
+    → state_behind against lanes elf input front bytes ≡ Ok s
+    → (patient (step against lanes elf input (header_of front) (drop 173 front)) s.0 s.1 ≡ Ok None) × (length s.1 < 256)
+
+-- ---- from any phase on
 
 module _ (against : Bool) (lanes : Lanes) (elf input : List ℕ) (h : Header) (output : List ℕ) where
   -- What a step found stays so, whatever bytes come behind, in a reading of any extent.

@@ -169,6 +169,10 @@ module _ (against : Bool) (lanes : Lanes) (elf input : List ℕ) where
     behind ← unless_broken 0 0 (header_checks against lanes elf input file) (drop 173 file)
     reads (step against lanes elf input h (take h.length behind)) (first_phase h) (drop h.length behind)
 
+-- a law of the machine, for form alone and for a program and an input, under every lanes, header and output
+abbrev pub InEachReading : (Bool → Lanes → List ℕ → List ℕ → Header → List ℕ → Type 0) → Type 0
+InEachReading law = (against : Bool) (lanes : Lanes) (elf input : List ℕ) (h : Header) (output : List ℕ) → law against lanes elf input h output
+
 -- whether something was refused, without what was read
 abbrev pub finding : {A : Type 0} → Result A Refusal → Result (Unit {0}) Refusal
 finding r = r >>= λ _. Ok tt

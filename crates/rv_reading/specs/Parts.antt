@@ -1,5 +1,5 @@
 -- What the machine reads of each part of a file is what the definition by whole parts reads of it.
-use Rattle.std.specs.Prelude.{◌≡◌, ℕ, zero, suc, ◌+◌, ◌*◌, Bool, List, [], ◌∷◌, ◌++◌, length, drop, map, Option, None, Ok, nat_le}
+use Rattle.std.specs.Prelude.{◌≡◌, ℕ, zero, ◌+◌, ◌*◌, Bool, List, [], ◌∷◌, ◌++◌, length, drop, map, Option, None, Ok, nat_le}
 use Rattle.rv_base.specs.declared.record.Header.{Header}
 use Rattle.rv_base.specs.declared.record.Place.{Place}
 use Rattle.rv_base.specs.declared.record.ShardHead.{ShardHead}
@@ -11,14 +11,18 @@ use Rattle.rv_spec.specs.Record.{rows_length}
 use Rattle.rv_spec.specs.Checks.{unless_broken, ◌>>=◌}
 use Rattle.rv_spec.specs.Reading.{read_rows, read_shard, read_shards, read_entries}
 use Rattle.rv_reading.specs.Stream.{State, reads}
-use Rattle.rv_reading.specs.Machine.{Sums, no_sums, Inside, Phase, Extent, tuple_sums, event_sums, shards_events, last_cell, first_tuple, step_to}
+use Rattle.rv_reading.specs.Machine.{Sums, no_sums, Inside, Phase, Extent, tuple_sums, event_sums, shards_events, last_cell, first_tuple, step, step_to}
 use Rattle.rv_reading.specs.Machine.Phase.{Shards, Rows, Entries}
-use Rattle.rv_reading.specs.Machine.Extent.{ShardsAlone, TableAlone}
+use Rattle.rv_reading.specs.Machine.Extent.{WholeFile, ShardsAlone, TableAlone}
 
 module _ (against : Bool) (lanes : Lanes) (elf input : List ℕ) (h : Header) (output : List ℕ) where
   -- what comes of a phase and the bytes from it on, in a reading that goes so far
   abbrev pub runs : Extent → Phase → List ℕ → State Phase
   runs extent p bytes = reads (step_to against lanes elf input h output extent) p bytes
+
+  -- in the reading of a whole file nothing ends but the file
+  abbrev pub WholeFileIsRead : Type 0
+  WholeFileIsRead = (p : Phase) (bytes : List ℕ) → runs WholeFile p bytes ≡ reads (step against lanes elf input h output) p bytes
 
   -- within a shard, behind rows of so many bytes with these events
   abbrev pub inside : ShardHead → ℕ → List Event → Inside

@@ -1,5 +1,5 @@
 -- A reader that goes on from phase to phase, in one go or in any pieces.
-use Rattle.std.specs.Prelude.{◌≡◌, ℕ, zero, suc, ◌<◌, Bool, List, [], ◌++◌, length, Option, Some, None, Result, Ok, Err, ◌==◌, if◌then◌else◌}
+use Rattle.std.specs.Prelude.{◌≡◌, ℕ, zero, suc, ◌<◌, Bool, List, ◌++◌, length, Option, Some, None, Result, Ok, Err, ◌==◌, if◌then◌else◌}
 use Rattle.rv_base.specs.declared.record.Refusal.{Refusal}
 use Rattle.rv_spec.specs.Checks.{◌>>=◌}
 

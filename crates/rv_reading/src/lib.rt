@@ -4,6 +4,6 @@
 mod reading;
 
 pub use reading::{
-    cuts_dont_matter, file_is_judged, front_is_judged, front_is_refused, machine_is_stream,
-    parts_alone_are_read, parts_are_read, state_tells,
+    cuts_dont_matter, file_is_judged, file_state_tells, front_is_judged, front_is_refused,
+    machine_is_stream, parts_alone_are_read, parts_are_read, state_tells,
 };

@@ -4,11 +4,9 @@
 //! Each law is the contract of a function that does nothing. They hold for every lanes, for both
 //! versions, and for form alone as for a program and an input.
 
-ghost use Rattle.std.specs.Prelude.{ℕ, Bool, List};
-ghost use Rattle.rv_base.specs.declared.Header.{Header};
-ghost use Rattle.rv_spec.specs.Digest.{Lanes};
-ghost use Rattle.rv_reading.specs.Judging.{CutsDontMatter, FrontIsJudged, FrontStaysRefused, JudgedIsRead, MachineIsStream, PiecesJoin, RefusalsStay, RefusedAtFront, StateTellsRefusals, StatesWait, VerdictBehindFront, VerdictIsTold};
-ghost use Rattle.rv_reading.specs.Parts.{EntriesAreRead, RowsAreRead, ShardAloneIsRead, ShardsAloneAreRead, ShardsAreRead, TableAloneIsRead};
+ghost use Rattle.rv_reading.specs.Judging.{CutsDontMatter, FileStateWaits, FileStaysRefused, FrontIsJudged, FrontStaysRefused, JudgedIsRead, MachineIsStream, PiecesJoin, RefusalsStay, RefusedAtFront, StateTellsFile, StateTellsRefusals, StatesWait, VerdictBehindFront, VerdictIsTold};
+ghost use Rattle.rv_reading.specs.Machine.{InEachReading};
+ghost use Rattle.rv_reading.specs.Parts.{EntriesAreRead, RowsAreRead, ShardAloneIsRead, ShardsAloneAreRead, ShardsAreRead, TableAloneIsRead, WholeFileIsRead};
 
 /// On a whole file the machine finds no broken check where the definition finds none, and else the
 /// same first broken check, with its place; so its verdict is that of the definition.
@@ -32,36 +30,48 @@ pub fn front_is_refused()
 
 /// Each step takes a byte at least, and what it found stays so, whatever bytes follow.
 pub fn machine_is_stream()
-    ensures { (against : Bool) (lanes : Lanes) (elf input : List ℕ) (header : Header) (output : List ℕ) → MachineIsStream against lanes elf input header output }
+    ensures { InEachReading MachineIsStream }
 {}
 
 /// Cuts don't matter: a piece and then another leave the state that both joined leave, and what
 /// comes of a state behind a piece is what comes of the state before it with the piece in front.
 pub fn cuts_dont_matter()
-    ensures pieces { (against : Bool) (lanes : Lanes) (elf input : List ℕ) (header : Header) (output : List ℕ) → PiecesJoin against lanes elf input header output }
-    ensures outcome { (against : Bool) (lanes : Lanes) (elf input : List ℕ) (header : Header) (output : List ℕ) → CutsDontMatter against lanes elf input header output }
+    ensures pieces { InEachReading PiecesJoin }
+    ensures outcome { InEachReading CutsDontMatter }
 {}
 
-/// A state is a refusal exactly where the bytes so far are refused by another rule than 1, and then
-/// they are refused so, whatever follows. A state that is none waits, with fewer than 256 bytes.
+/// From any phase on, a state is a refusal exactly where the bytes so far are refused by another rule
+/// than 1, and then they are refused so, whatever follows. A state that is none waits, with fewer
+/// than 256 bytes.
 pub fn state_tells()
-    ensures refusals { (against : Bool) (lanes : Lanes) (elf input : List ℕ) (header : Header) (output : List ℕ) → StateTellsRefusals against lanes elf input header output }
-    ensures stay { (against : Bool) (lanes : Lanes) (elf input : List ℕ) (header : Header) (output : List ℕ) → RefusalsStay against lanes elf input header output }
-    ensures waits { (against : Bool) (lanes : Lanes) (elf input : List ℕ) (header : Header) (output : List ℕ) → StatesWait against lanes elf input header output }
+    ensures refusals { InEachReading StateTellsRefusals }
+    ensures stay { InEachReading RefusalsStay }
+    ensures waits { InEachReading StatesWait }
 {}
 
-/// Some rows, shards or entries of the table are read as by the definition, and the machine goes on
-/// behind them with the place, the bytes of the rows and the digests.
+/// Behind header and output and any bytes, the state is a refusal exactly where the file so far is
+/// refused by another rule than 1, and then it is refused so, whatever follows. A state that is none
+/// waits, with fewer than 256 bytes.
+pub fn file_state_tells()
+    ensures refusals { StateTellsFile }
+    ensures stay { FileStaysRefused }
+    ensures waits { FileStateWaits }
+{}
+
+/// In a reading of any extent, some rows, shards or entries of the table are read as by the
+/// definition, and the machine goes on behind them with the place, the bytes of the rows and the
+/// digests. The reading of a whole file ends nowhere before the file does.
 pub fn parts_are_read()
-    ensures rows { (against : Bool) (lanes : Lanes) (elf input : List ℕ) (header : Header) (output : List ℕ) → RowsAreRead against lanes elf input header output }
-    ensures shards { (against : Bool) (lanes : Lanes) (elf input : List ℕ) (header : Header) (output : List ℕ) → ShardsAreRead against lanes elf input header output }
-    ensures entries { (against : Bool) (lanes : Lanes) (elf input : List ℕ) (header : Header) (output : List ℕ) → EntriesAreRead against lanes elf input header output }
+    ensures whole { InEachReading WholeFileIsRead }
+    ensures rows { InEachReading RowsAreRead }
+    ensures shards { InEachReading ShardsAreRead }
+    ensures entries { InEachReading EntriesAreRead }
 {}
 
 /// One shard alone, some shards alone, from any stated place, and the table alone are read as by the
 /// definition: the refusal, or the place behind them, the digests of their tuples and the bytes left.
 pub fn parts_alone_are_read()
-    ensures shard { (against : Bool) (lanes : Lanes) (elf input : List ℕ) (header : Header) (output : List ℕ) → ShardAloneIsRead against lanes elf input header output }
-    ensures shards { (against : Bool) (lanes : Lanes) (elf input : List ℕ) (header : Header) (output : List ℕ) → ShardsAloneAreRead against lanes elf input header output }
-    ensures table { (against : Bool) (lanes : Lanes) (elf input : List ℕ) (header : Header) (output : List ℕ) → TableAloneIsRead against lanes elf input header output }
+    ensures shard { InEachReading ShardAloneIsRead }
+    ensures shards { InEachReading ShardsAloneAreRead }
+    ensures table { InEachReading TableAloneIsRead }
 {}
