@@ -22,7 +22,7 @@ use Rattle.rv_reading.specs.Machine.Phase.{Shards, Rows, Entries}
 use Rattle.rv_reading.specs.Machine.Extent.{WholeFile}
 use Rattle.rv_reading.specs.Parts.{runs, WholeFileIsRead}
 use Rattle.rv_reading.specs.Judging.{JudgedIsRead, VerdictIsTold}
-use Rattle.rv_reading.proofs.Kept.{refused_by_ok, all_hold}
+use Rattle.rv_reading.proofs.CheckLists.{refused_by_ok, all_hold}
 use Rattle.rv_reading.proofs.Binding.{bind_assoc, bind_same, bind_ok, checks_bind, checks_same}
 use Rattle.rv_reading.proofs.RunningSums.{no_sums-sums}
 use Rattle.rv_reading.proofs.ShardsRead.{behind_shards, shards_read}

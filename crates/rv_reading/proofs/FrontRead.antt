@@ -13,7 +13,7 @@ use Rattle.rv_spec.specs.Reading.{header_of, header_checks, full}
 use Rattle.rv_reading.specs.Stream.{State, reads}
 use Rattle.rv_reading.specs.Machine.{Phase, step, first_phase, opened, told}
 use Rattle.rv_reading.specs.Judging.{IsFront, FrontIsJudged, VerdictBehindFront, RefusedAtFront, FrontStaysRefused}
-use Rattle.rv_reading.proofs.Kept.{refused_by_err, Keeps, keeps_after, room, refusal_kept, Passed, passed_some, there, others_before}
+use Rattle.rv_reading.proofs.CheckLists.{refused_by_err, Keeps, Keeps-append, Keeps-room, Keeps-refusal, Passed, Passed-first_broken, Passed-room, Passed-append}
 use Rattle.rv_reading.proofs.Fronts.{header_front}
 use Rattle.rv_reading.proofs.Binding.{checks_bind, checks_refuse}
 use Rattle.rv_reading.proofs.FileRead.{verdict_is_told}
@@ -46,27 +46,27 @@ module _ (against : Bool) (lanes : Lanes) (elf input : List ℕ) where
   keeps_header xs ys =
       let last : Header → List ℕ → List Check = λ h zs. (1, nat_le (173 + h.length) (length zs)) ∷ [] in
       let rest : List ℕ → List Check = λ zs. middle (header_of zs) (take 8 zs) ++ last (header_of zs) zs in
-      room 173 173 xs ys (rest xs) (rest (xs ++ ys)) refl (λ le.
+      Keeps-room 173 173 xs ys (rest xs) (rest (xs ++ ys)) refl (λ le.
       let h = header_front xs ys le in
       let first = take-append-le 8 xs ys (omega (arith, le)) in
       let mid : middle (header_of xs) (take 8 xs) ≡ middle (header_of (xs ++ ys)) (take 8 (xs ++ ys)) = λ t. middle (sym h t) (sym first t) in
       subst (λ (ms : List Check). Keeps (rest xs) (ms ++ last (header_of (xs ++ ys)) (xs ++ ys))) mid
-      (keeps_after (middle (header_of xs) (take 8 xs)) (last (header_of xs) xs) (last (header_of (xs ++ ys)) (xs ++ ys))
-      (room (173 + (header_of xs).length) (173 + (header_of (xs ++ ys)).length) xs ys [] [] (ap (λ (z : Header). 173 + z.length) (sym h)) (λ _. tt))))
+      (Keeps-append (middle (header_of xs) (take 8 xs)) (last (header_of xs) xs) (last (header_of (xs ++ ys)) (xs ++ ys))
+      (Keeps-room (173 + (header_of xs).length) (173 + (header_of (xs ++ ys)).length) xs ys [] [] (ap (λ (z : Header). 173 + z.length) (sym h)) (λ _. tt))))
 
   -- a front has bytes enough for its header and output
   passed_header : (front : List ℕ) → IsFront front → Passed (header_checks against lanes elf input front)
   passed_header front size =
       let h = header_of front in
       let last : List Check = (1, nat_le (173 + h.length) (length front)) ∷ [] in
-      there 173 front (middle h (take 8 front) ++ last) (omega (arith, size))
-      (others_before (middle h (take 8 front)) last refl (there (173 + h.length) front [] (omega (arith, size)) tt))
+      Passed-room 173 front (middle h (take 8 front) ++ last) (omega (arith, size))
+      (Passed-append (middle h (take 8 front)) last refl (Passed-room (173 + h.length) front [] (omega (arith, size)) tt))
 
   pub front_has_room : (front : List ℕ) (r : Refusal) → IsFront front → opened against lanes elf input front ≡ Err r → ¬ (r.rule ≡ 1)
   front_has_room front r size e one =
       let checks = header_checks against lanes elf input front in
       let o = refused_by_err 0 0 (first_broken checks) (first_phase against lanes elf input (header_of front), []) r e in
-      passed_some checks o.0 (passed_header front size) o.1 (ap (λ (z : Refusal). z.rule) o.2 ∙ one)
+      Passed-first_broken checks o.0 (passed_header front size) o.1 (ap (λ (z : Refusal). z.rule) o.2 ∙ one)
 
 -- Header and output in front, and then any bytes.
 pub front_is_judged : FrontIsJudged
@@ -102,5 +102,5 @@ pub front_stays_refused : FrontStaysRefused
 front_stays_refused against lanes elf input front bytes r refused not =
     let file = front ++ bytes in
     refused_at_front against lanes elf input file r
-    (refusal_kept 0 0 (header_checks against lanes elf input front) (header_checks against lanes elf input file)
+    (Keeps-refusal 0 0 (header_checks against lanes elf input front) (header_checks against lanes elf input file)
     (first_phase against lanes elf input (header_of front), []) (first_phase against lanes elf input (header_of file), []) r (keeps_header against lanes elf input front bytes) refused not)

@@ -1,6 +1,6 @@
 pub mod StreamLaws
 pub mod Fronts
-pub mod Kept
+pub mod CheckLists
 pub mod StepStream
 pub mod StepWaits
 pub mod Binding

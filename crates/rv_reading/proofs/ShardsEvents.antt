@@ -11,7 +11,7 @@ use Rattle.rv_spec.specs.Record.{Shard, shard_rows, rows_length}
 use Rattle.rv_spec.specs.Checks.{Check, first_broken, unless_broken, ◌>>=◌}
 use Rattle.rv_spec.specs.Reading.{Reading, head_of, same_place, full, read_row, read_rows, read_shard, read_shards}
 use Rattle.rv_reading.specs.Machine.{shards_events}
-use Rattle.rv_reading.proofs.Kept.{refused_by_ok}
+use Rattle.rv_reading.proofs.CheckLists.{refused_by_ok}
 use Rattle.rv_reading.proofs.Binding.{bind_ok}
 use Rattle.rv_reading.proofs.ShardsRead.{digest_checks, shard_read}
 

@@ -19,7 +19,7 @@ use Rattle.rv_reading.specs.Machine.{Sums, Phase, Extent, is_behind, on_if, with
 use Rattle.rv_reading.specs.Machine.Phase.{Shards, Rows, Entries}
 use Rattle.rv_reading.proofs.StreamLaws.{until-is_stream}
 use Rattle.rv_reading.proofs.Fronts.{u32_front, byte_front, head_front, entry_front, row_front, digest_front}
-use Rattle.rv_reading.proofs.Kept.{refused_by_ok, all_hold, Keeps, keeps_none, same, room, keeps_equal, refusal_kept}
+use Rattle.rv_reading.proofs.CheckLists.{refused_by_ok, all_hold, Keeps, Keeps-none, Keeps-same, Keeps-room, Keeps-equal, Keeps-refusal}
 
 some_is : {A : Type 0} (x y : A) → Some x ≡ Some y → x ≡ y
 some_is x y e = cc
@@ -49,8 +49,8 @@ case_of i r cs ds q d n m xs ys k fit = record {
       let phase : d ≡ p = f.3 ∙ ap (λ (z : Phase × List ℕ). z.0) pair in
       let is : drop n xs ≡ rest = ap (λ (z : Phase × List ℕ). z.1) pair in
       let left : drop m (xs ++ ys) ≡ rest ++ ys = ap (λ j. drop j (xs ++ ys)) f.2 ∙ drop-append-le n xs ys f.1 ∙ ap (λ (zs : List ℕ). zs ++ ys) is in
-      λ t. refused_by i r (keeps_none cs ds k o.0 t) (Some (phase t, left t));
-  stays = λ e is not. refusal_kept i r cs ds (Some (q, drop n xs)) (Some (d, drop m (xs ++ ys))) e k is not;
+      λ t. refused_by i r (Keeps-none cs ds k o.0 t) (Some (phase t, left t));
+  stays = λ e is not. Keeps-refusal i r cs ds (Some (q, drop n xs)) (Some (d, drop m (xs ++ ys))) e k is not;
 }
 
 fixed : (cs : List Check) (q d : Phase) (n : ℕ) (xs : List ℕ) → 0 < n → (first_broken cs ≡ None → n ≤ length xs) → (n ≤ length xs → d ≡ q) → Fits cs q d n n xs
@@ -93,14 +93,14 @@ module _ (against : Bool) (lanes : Lanes) (elf input : List ℕ) (h : Header) (o
   unfolding step
   case (Shards zero i p all) xs ys =
       let cs : List ℕ → List Check = λ bytes. (1, nat_le 4 (length bytes)) ∷ [] in
-      case_of h.shards 0 (cs xs) (cs (xs ++ ys)) _ _ 4 4 xs ys (room 4 4 xs ys [] [] refl (λ _. tt))
+      case_of h.shards 0 (cs xs) (cs (xs ++ ys)) _ _ 4 4 xs ys (Keeps-room 4 4 xs ys [] [] refl (λ _. tt))
       (fixed (cs xs) _ _ 4 xs (omega arith) (λ f. leb-true 4 (length xs) (all_hold (cs xs) f).0) (λ le. ap (λ n. Entries n 0 None p all) (u32_front xs ys 0 (omega (arith, le)))))
   case (Shards (suc n) i p all) xs ys =
       let rows = shard_rows h.size h.steps i in
       let good : ShardHead → Bool = λ head. head.index == i && head.rows == rows && full against lanes elf input (same_place head p) in
       let cs : List ℕ → List Check = λ bytes. (1, nat_le 32 (length bytes)) ∷ (9, good (head_of bytes)) ∷ [] in
       case_of i 0 (cs xs) (cs (xs ++ ys)) _ _ 32 32 xs ys
-      (room 32 32 xs ys ((9, good (head_of xs)) ∷ []) ((9, good (head_of (xs ++ ys))) ∷ []) refl (λ le. same 9 (good (head_of xs)) (good (head_of (xs ++ ys))) [] [] (ap good (sym (head_front xs ys le))) tt))
+      (Keeps-room 32 32 xs ys ((9, good (head_of xs)) ∷ []) ((9, good (head_of (xs ++ ys))) ∷ []) refl (λ le. Keeps-same 9 (good (head_of xs)) (good (head_of (xs ++ ys))) [] [] (ap good (sym (head_front xs ys le))) tt))
       (fixed (cs xs) _ _ 32 xs (omega arith) (λ f. leb-true 32 (length xs) (all_hold (cs xs) f).0) (λ le. ap (λ head. Rows rows 0 n i (begin_shard head) p all) (head_front xs ys le)))
   case (Rows zero r m i s p all) xs ys =
       let good : List ℕ → Bool = λ bytes. good_digests against lanes elf input h output bytes s.sums in
@@ -109,7 +109,7 @@ module _ (against : Bool) (lanes : Lanes) (elf input : List ℕ) (h : Header) (o
       let two : List ℕ → List Check = λ bytes. (1, nat_le 256 (length bytes)) ∷ one bytes in
       let cs : List ℕ → List Check = λ bytes. (20, full_size) ∷ two bytes in
       case_of i r (cs xs) (cs (xs ++ ys)) _ _ 256 256 xs ys
-      (same 20 full_size full_size (two xs) (two (xs ++ ys)) refl (room 256 256 xs ys (one xs) (one (xs ++ ys)) refl (λ le. same 21 (good xs) (good (xs ++ ys)) [] [] (good_same xs ys s.sums le) tt)))
+      (Keeps-same 20 full_size full_size (two xs) (two (xs ++ ys)) refl (Keeps-room 256 256 xs ys (one xs) (one (xs ++ ys)) refl (λ le. Keeps-same 21 (good xs) (good (xs ++ ys)) [] [] (good_same xs ys s.sums le) tt)))
       (fixed (cs xs) _ _ 256 xs (omega arith) (λ f. leb-true 256 (length xs) (all_hold (cs xs) f).1.0) (λ le. refl))
     where
       good_same : (xs ys : List ℕ) (s : Sums) → 256 ≤ length xs → good_digests against lanes elf input h output xs s ≡ good_digests against lanes elf input h output (xs ++ ys) s
@@ -129,10 +129,10 @@ module _ (against : Bool) (lanes : Lanes) (elf input : List ℕ) (h : Header) (o
       let count : 9 ≤ length xs → get_or (xs ++ ys) 8 0 ≡ get_or xs 8 0 = λ le. byte_front xs ys 8 (omega (arith, le)) in
       let sized : 9 ≤ length xs → size (xs ++ ys) ≡ size xs = λ le. ap (λ z. 9 + 21 * z) (count le) in
       case_of i r (cs xs) (cs (xs ++ ys)) (to (row_of xs)) (to (row_of (xs ++ ys))) (size xs) (size (xs ++ ys)) xs ys
-      (room 9 9 xs ys (one xs) (one (xs ++ ys)) refl (λ le.
-      same 10 (is_in_range 1 8 (get_or xs 8 0)) (is_in_range 1 8 (get_or (xs ++ ys) 8 0)) (two xs) (two (xs ++ ys)) (ap (λ z. is_in_range 1 8 z) (sym (count le)))
-      (room (size xs) (size (xs ++ ys)) xs ys (three xs) (three (xs ++ ys)) (sym (sized le)) (λ more.
-      keeps_equal (three xs) (three (xs ++ ys)) (ap (λ row. full_row against lanes elf input h output row k p) (sym (row_front xs ys le more)))))))
+      (Keeps-room 9 9 xs ys (one xs) (one (xs ++ ys)) refl (λ le.
+      Keeps-same 10 (is_in_range 1 8 (get_or xs 8 0)) (is_in_range 1 8 (get_or (xs ++ ys) 8 0)) (two xs) (two (xs ++ ys)) (ap (λ z. is_in_range 1 8 z) (sym (count le)))
+      (Keeps-room (size xs) (size (xs ++ ys)) xs ys (three xs) (three (xs ++ ys)) (sym (sized le)) (λ more.
+      Keeps-equal (three xs) (three (xs ++ ys)) (ap (λ row. full_row against lanes elf input h output row k p) (sym (row_front xs ys le more)))))))
       (λ f.
       let hold = all_hold (cs xs) f in
       let nine = leb-true 9 (length xs) hold.0 in
@@ -146,7 +146,7 @@ module _ (against : Bool) (lanes : Lanes) (elf input : List ℕ) (h : Header) (o
       let others : TableEntry → List Check = λ e. (22, a e) ∷ (23, b e) ∷ (24, c e) ∷ [] in
       let cs : List ℕ → List Check = λ bytes. (1, nat_le 16 (length bytes)) ∷ others (entry_of bytes) in
       case_of h.shards j (cs xs) (cs (xs ++ ys)) _ _ 16 16 xs ys
-      (room 16 16 xs ys (others (entry_of xs)) (others (entry_of (xs ++ ys))) refl (λ le. keeps_equal (others (entry_of xs)) (others (entry_of (xs ++ ys))) (ap others (sym (entry_front xs ys le)))))
+      (Keeps-room 16 16 xs ys (others (entry_of xs)) (others (entry_of (xs ++ ys))) refl (λ le. Keeps-equal (others (entry_of xs)) (others (entry_of (xs ++ ys))) (ap others (sym (entry_front xs ys le)))))
       (fixed (cs xs) _ _ 16 xs (omega arith) (λ f. leb-true 16 (length xs) (all_hold (cs xs) f).0) (λ le. ap (λ e. Entries n (j + 1) (Some e.cell) p (with_tuples against lanes all (tuple_last e ∷ []) (first_tuple against lanes elf input h output e ∷ []))) (entry_front xs ys le)))
 
   pub step-is_stream : IsStream Phase (step against lanes elf input h output)
