@@ -13,6 +13,6 @@ pub use Rattle.rv_reading.proofs.FileRead.{whole_file_is_read}
 pub use Rattle.rv_reading.proofs.RowsRead.{rows_are_read}
 pub use Rattle.rv_reading.proofs.ShardsRead.{shards_are_read, shard_alone_is_read, shards_alone_are_read}
 pub use Rattle.rv_reading.proofs.TableRead.{entries_are_read, table_alone_is_read}
--- of any stream: reading is a step and then reading, also with more bytes behind; and the machine's step is one
-pub use Rattle.rv_reading.proofs.StreamLaws.{reads-step, reads-goes, reads-stops}
+-- of any stream: reading is a step and then reading, also with more bytes behind, and what waits is refused by rule 1 or not at all; the machine's step is a stream
+pub use Rattle.rv_reading.proofs.StreamLaws.{reads-step, reads-goes, reads-stops, waiting_refused}
 pub use Rattle.rv_reading.proofs.StepStream.{step-is_stream}

@@ -12,20 +12,16 @@ use Rattle.rv_spec.specs.Record.{row_length, rows_length}
 use Rattle.rv_spec.specs.Checks.{unless_broken, ◌>>=◌}
 use Rattle.rv_spec.specs.Reading.{Reading, row_of, row_form, full_row, next_place, read_row, read_rows}
 use Rattle.rv_reading.specs.Stream.{State, onwards}
-use Rattle.rv_reading.specs.Machine.{Sums, Inside, Phase, Extent, on_if, with_row, step, step_to}
+use Rattle.rv_reading.specs.Machine.{Sums, Inside, Phase, Extent, on_if, with_row, step}
 use Rattle.rv_reading.specs.Machine.Phase.{Rows}
 use Rattle.rv_reading.specs.Parts.{runs, inside, RowsAreRead}
-use Rattle.rv_reading.proofs.StreamLaws.{reads-step}
-use Rattle.rv_reading.proofs.StepStream.{step_to-is_stream}
+use Rattle.rv_reading.proofs.StepStream.{runs-step}
 use Rattle.rv_reading.proofs.Binding.{bind_assoc, bind_same, checks_bind}
 use Rattle.rv_reading.proofs.RunningSums.{with_events-sums}
 
 module _ (against : Bool) (lanes : Lanes) (elf input : List ℕ) (h : Header) (output : List ℕ) (extent : Extent) where
   abbrev run : Phase → List ℕ → State Phase
   run p bytes = runs against lanes elf input h output extent p bytes
-
-  pub runs-step : (p : Phase) (bytes : List ℕ) → run p bytes ≡ (step_to against lanes elf input h output extent p bytes >>= onwards run (p, bytes))
-  runs-step p bytes = reads-step (step_to against lanes elf input h output extent) (step_to-is_stream against lanes elf input h output extent) p bytes
 
   abbrev pub behind_rows : ℕ → ℕ → ℕ → ℕ → ShardHead → ℕ → List Event → Sums → Reading (List Row) → State Phase
   behind_rows k total m i head size es all x = run (Rows zero total m i (inside against lanes elf input h output head (size + rows_length x.part) (es ++ events k x.part)) x.place all) x.left
@@ -39,7 +35,7 @@ module _ (against : Bool) (lanes : Lanes) (elf input : List ℕ) (h : Header) (o
       (Rows n (r + 1) m i (with_row against lanes s (i * h.size + r) (row_of bytes)) (next_place against lanes elf input h (row_of bytes) p) all) (drop (9 + 21 * get_or bytes 8 0) bytes)
       >>= onwards run (Rows (suc n) r m i s p all, bytes))
   unfolding step
-  row_step n r m i s p all bytes = runs-step (Rows (suc n) r m i s p all) bytes
+  row_step n r m i s p all bytes = runs-step against lanes elf input h output extent (Rows (suc n) r m i s p all) bytes
 
   row_is : (i r : ℕ) (p : Place) (bytes : List ℕ)
       → read_row against lanes elf input h output i r p bytes

@@ -16,9 +16,10 @@ use Rattle.rv_reading.specs.Machine.{Sums, Inside, Phase, Extent, on_if, with_su
 use Rattle.rv_reading.specs.Machine.Phase.{Shards, Rows}
 use Rattle.rv_reading.specs.Machine.Extent.{ShardsAlone}
 use Rattle.rv_reading.specs.Parts.{runs, inside, ShardsAreRead, ShardAloneIsRead, ShardsAloneAreRead}
+use Rattle.rv_reading.proofs.StepStream.{runs-step}
 use Rattle.rv_reading.proofs.Binding.{bind_assoc, bind_same, checks_bind}
 use Rattle.rv_reading.proofs.RunningSums.{with_sums-sums, no_sums-sums, stated_alike}
-use Rattle.rv_reading.proofs.RowsRead.{runs-step, behind_rows, rows_read}
+use Rattle.rv_reading.proofs.RowsRead.{behind_rows, rows_read}
 
 module _ (against : Bool) (lanes : Lanes) (elf input : List ℕ) (h : Header) (output : List ℕ) where
   abbrev pub digest_checks : ℕ → ShardHead → List Event → List ℕ → List Check

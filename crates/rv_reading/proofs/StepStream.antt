@@ -12,12 +12,13 @@ use Rattle.rv_spec.specs.Digest.{Lanes}
 use Rattle.rv_spec.specs.Lists.{tuple_last}
 use Rattle.rv_spec.specs.Record.{shard_rows}
 use Rattle.rv_spec.specs.Cells.{is_cell}
-use Rattle.rv_spec.specs.Checks.{Check, first_broken, refused_by, unless_broken}
+use Rattle.rv_spec.specs.Checks.{Check, first_broken, refused_by, unless_broken, ◌>>=◌}
 use Rattle.rv_spec.specs.Reading.{head_of, row_of, entry_of, above, full, full_row, next_place, same_place, digest_of}
-use Rattle.rv_reading.specs.Stream.{Found, IsStream}
+use Rattle.rv_reading.specs.Stream.{Found, IsStream, onwards}
 use Rattle.rv_reading.specs.Machine.{Sums, Phase, Extent, is_behind, on_if, with_tuples, with_row, begin_shard, first_tuple, good_digests, step, step_to}
+use Rattle.rv_reading.specs.Parts.{runs}
 use Rattle.rv_reading.specs.Machine.Phase.{Shards, Rows, Entries}
-use Rattle.rv_reading.proofs.StreamLaws.{until-is_stream}
+use Rattle.rv_reading.proofs.StreamLaws.{until-is_stream, reads-step}
 use Rattle.rv_reading.proofs.Fronts.{u32_front, byte_front, head_front, entry_front, row_front, digest_front}
 use Rattle.rv_reading.proofs.CheckLists.{refused_by_ok, all_hold, Keeps, Keeps-none, Keeps-same, Keeps-room, Keeps-equal, Keeps-refusal}
 
@@ -158,3 +159,8 @@ module _ (against : Bool) (lanes : Lanes) (elf input : List ℕ) (h : Header) (o
 
   pub step_to-is_stream : (extent : Extent) → IsStream Phase (step_to against lanes elf input h output extent)
   step_to-is_stream extent = until-is_stream (step against lanes elf input h output) step-is_stream (is_behind extent)
+
+  -- a reading of any extent is a step and then reading
+  pub runs-step : (extent : Extent) (p : Phase) (bytes : List ℕ)
+      → runs against lanes elf input h output extent p bytes ≡ (step_to against lanes elf input h output extent p bytes >>= onwards (runs against lanes elf input h output extent) (p, bytes))
+  runs-step extent p bytes = reads-step (step_to against lanes elf input h output extent) (step_to-is_stream extent) p bytes

@@ -186,6 +186,19 @@ module _ {P : Type 0} (step : StepOf P) (is : IsStream P step) where
   pub state_waits : (p : P) (xs : List ℕ) (x : P × List ℕ) → settle step p xs ≡ Ok x → patient step x.0 x.1 ≡ Ok None
   state_waits p xs x e = reads_ends (patient step) waits p xs x e
 
+  -- What waits is refused by rule 1, or not at all.
+  pub waiting_refused : (p : P) (xs : List ℕ) (r : Refusal) → patient step p xs ≡ Ok None → reads step p xs ≡ Err r → r.rule ≡ 1
+  waiting_refused p xs r waiting e = go (step p xs) waiting (sym (reads-step step is p xs) ∙ e)
+    where
+      by_one : (t : Refusal) (b : Bool) → (t.rule == 1) ≡ b → cond {A = Found P} b (Ok None) (Err t) ≡ Ok None → t.rule ≡ 1
+      by_one t true f g = eqb-true t.rule 1 f
+      by_one t false f g = absurd cc
+
+      go : (s : Found P) → with_patience s ≡ Ok None → (s >>= onwards (reads step) (p, xs)) ≡ Err r → r.rule ≡ 1
+      go (Ok None) f g = absurd cc
+      go (Ok (Some y)) f g = absurd cc
+      go (Err t) f g = let same : r ≡ t = cc in ap (λ (z : Refusal). z.rule) same ∙ by_one t (t.rule == 1) refl f
+
   -- Where the bytes so far are refused by another rule than 1, the state refuses so.
   pub state_tells : (p : P) (xs : List ℕ) (r : Refusal) → reads step p xs ≡ Err r → ¬ (r.rule ≡ 1) → settle step p xs ≡ Err r
   state_tells p xs r e not = go (settle step p xs) refl
@@ -193,18 +206,8 @@ module _ {P : Type 0} (step : StepOf P) (is : IsStream P step) where
       whole : outcome step (settle step p xs) [] ≡ Err r
       whole = settle-outcome p xs [] ∙ ap (λ bytes. reads step p bytes) (append-nil xs) ∙ e
 
-      -- a state that waits has no such outcome
-      waiting : (x : P × List ℕ) → patient step x.0 x.1 ≡ Ok None → reads step x.0 (x.1 ++ []) ≡ Err r → ⊥
-      waiting x w o = at (step x.0 x.1) refl w (sym (reads-step step is x.0 x.1) ∙ ap (λ bytes. reads step x.0 bytes) (sym (append-nil x.1)) ∙ o)
-        where
-          at : (s : Found P) → step x.0 x.1 ≡ s → with_patience s ≡ Ok None → (s >>= onwards (reads step) x) ≡ Err r → ⊥
-          at (Ok None) f g k = absurd cc
-          at (Ok (Some y)) f g k = absurd cc
-          at (Err t) f g k =
-              let same : t ≡ r = cc in
-              let kept : with_patience (refusal P t) ≡ Err t = patient_stays t (λ one. not (ap (λ (z : Refusal). z.rule) (sym same) ∙ one)) in
-              absurd cc
-
       go : (s : State P) → settle step p xs ≡ s → settle step p xs ≡ Err r
       go (Err t) f = f ∙ sym (ap (λ s. outcome step s []) f) ∙ whole
-      go (Ok x) f = absurd (waiting x (state_waits p xs x f) (sym (ap (λ s. outcome step s []) f) ∙ whole))
+      go (Ok x) f =
+          let held : reads step x.0 x.1 ≡ Err r = sym (ap (λ bytes. reads step x.0 bytes) (append-nil x.1)) ∙ sym (ap (λ s. outcome step s []) f) ∙ whole in
+          absurd (not (waiting_refused x.0 x.1 r (state_waits p xs x f) held))

@@ -17,9 +17,9 @@ use Rattle.rv_reading.specs.Machine.{Sums, Phase, Extent, is_shards_alone, no_su
 use Rattle.rv_reading.specs.Machine.Phase.{Shards, Entries}
 use Rattle.rv_reading.specs.Machine.Extent.{WholeFile, TableAlone, ShardsAlone}
 use Rattle.rv_reading.specs.Parts.{runs, EntriesAreRead, TableAloneIsRead}
+use Rattle.rv_reading.proofs.StepStream.{runs-step}
 use Rattle.rv_reading.proofs.Binding.{bind_assoc, bind_same, checks_bind, checks_value}
 use Rattle.rv_reading.proofs.RunningSums.{with_tuples-sums, no_sums-sums, equal_alike}
-use Rattle.rv_reading.proofs.RowsRead.{runs-step}
 
 module _ (against : Bool) (lanes : Lanes) (elf input : List ℕ) (h : Header) (output : List ℕ) (extent : Extent) where
   abbrev run : Phase → List ℕ → State Phase
