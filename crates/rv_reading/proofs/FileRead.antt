@@ -92,7 +92,7 @@ module _ (against : Bool) (lanes : Lanes) (elf input : List ℕ) (h : Header) (o
       ∙ sym (bind_assoc (unless_broken h.shards 0 cs rest) whole seen)
 
   -- from the first shard to the end
-  shards_and_table_are_read : (p : Place) (bytes : List ℕ) → FullShards against lanes elf input h
+  shards_and_table_are_read : (p : Place) (bytes : List ℕ) → FullShards h
       → finding (run (Shards h.shards 0 p no_sums) bytes) ≡ finding (read_shards against lanes elf input h.shards h output 0 p bytes >>= behind)
   shards_and_table_are_read p bytes full_shards =
       let shards = read_shards against lanes elf input h.shards h output 0 p bytes in
@@ -100,7 +100,7 @@ module _ (against : Bool) (lanes : Lanes) (elf input : List ℕ) (h : Header) (o
       let later : (x : Reading (List Shard)) → shards ≡ Ok x → finding (shards_behind x) ≡ finding (behind x) = λ x ok.
       let none : 0 * h.size ≡ 0 = omega arith in
       let es : shards_events h 0 x.part ≡ all_events x =
-      events_are against lanes elf input h.shards h output 0 p bytes x full_shards (omega arith) ok ∙ ap (λ k. events k (flat_map (λ s. s.rows) x.part)) none in
+      events_are against lanes elf input h output h.shards 0 p bytes x full_shards (omega arith) ok ∙ ap (λ k. events k (flat_map (λ s. s.rows) x.part)) none in
       ap (λ z. finding (run (Shards 0 h.shards x.place (event_sums against lanes z)) x.left)) es ∙ table_is_read h.shards x in
       ap (λ z. finding (run (Shards h.shards 0 p z) bytes)) (no_sums-sums against lanes)
       ∙ ap finding (shards_read against lanes elf input h output WholeFile h.shards 0 h.shards [] p bytes (omega arith))
@@ -126,7 +126,7 @@ module _ (against : Bool) (lanes : Lanes) (elf input : List ℕ) where
       omega (arith, big, is, lt)
 
   -- a header whose checks hold states as many shards as the steps fill
-  shards_are_full : (file : List ℕ) → first_broken (header_checks against lanes elf input file) ≡ None → FullShards against lanes elf input (header_of file)
+  shards_are_full : (file : List ℕ) → first_broken (header_checks against lanes elf input file) ≡ None → FullShards (header_of file)
   shards_are_full file e i lt =
       let h = header_of file in
       let shards_are : Bool = h.shards == div_ceil h.steps h.size in
