@@ -62,7 +62,7 @@ module _ (against : Bool) (lanes : Lanes) (elf input : List ℕ) (h : Header) (o
       let count = u32_at shards.left 0 in
       let es = all_events shards in
       let rs = map tuple_read es ++ map tuple_last entries.0 in
-      let ws = map tuple_written es ++ map (first_tuple against lanes elf input h output) entries.0 in
+      let ws = map tuple_written es ++ map (first_tuple elf h) entries.0 in
       let here : Phase × List ℕ = (Entries 0 count (last_cell None entries.0) shards.place (tuple_sums against lanes rs ws), entries.1) in
       ap finding (end_read against lanes elf input h output count (last_cell None entries.0) shards.place rs ws entries.1)
       ∙ checks_bind h.shards count (end_checks against lanes elf input h (parts_of shards entries) shards.place entries.1) here (parts_of shards entries) seen seen refl

@@ -43,7 +43,7 @@ module _ (against : Bool) (lanes : Lanes) (elf input : List ℕ) (h : Header) (o
       let a = bind_ok (read_row against lanes elf input h output i r p bytes) (λ first. read_rows against lanes elf input n h output i (r + 1) first.place first.left >>= λ others. Ok (put first others)) x e in
       let b = bind_ok (read_rows against lanes elf input n h output i (r + 1) a.0.place a.0.left) (λ others. Ok (put a.0 others)) x a.2 in
       let count : length b.0.part ≡ n = rows_count n i (r + 1) a.0.place a.0.left b.0 b.1 in
-      ap (λ (z : Reading (List Row)). length z.part) (sym (ok_is (put a.0 b.0) x b.2)) ∙ ap suc count
+      subst (λ (z : Reading (List Row)). length z.part ≡ suc n) (ok_is (put a.0 b.0) x b.2) (ap suc count)
 
   shard_count : (i : ℕ) (p : Place) (bytes : List ℕ) (x : Reading Shard) → read_shard against lanes elf input h output i p bytes ≡ Ok x → length x.part.rows ≡ shard_rows h.size h.steps i
   unfolding read_shard
@@ -52,8 +52,8 @@ module _ (against : Bool) (lanes : Lanes) (elf input : List ℕ) (h : Header) (o
       let head = head_of bytes in
       let cs : List Check = (1, nat_le 32 (length bytes)) ∷ (9, head.index == i && head.rows == n && full against lanes elf input (same_place head p)) ∷ [] in
       let rows_from : List ℕ → Result (Reading (List Row)) Refusal = λ z. read_rows against lanes elf input n h output i 0 p z in
-      let checked : Reading (List Row) → List Check = λ y. digest_checks against lanes elf input h output (rows_length y.part) head (events (i * h.size) y.part) y.left in
-      let made : Reading (List Row) → Reading Shard = λ y. shard_read against lanes elf input h output head y in
+      let checked : Reading (List Row) → List Check = λ y. digest_checks against lanes (rows_length y.part) head (events (i * h.size) y.part) y.left in
+      let made : Reading (List Row) → Reading Shard = λ y. shard_read head y in
       let closed : Reading (List Row) → Result (Reading Shard) Refusal = λ y. unless_broken i n (checked y) (made y) in
       let a = bind_ok (unless_broken i 0 cs (drop 32 bytes)) (λ z. rows_from z >>= closed) x e in
       let b = bind_ok (rows_from a.0) closed x a.2 in

@@ -1,5 +1,5 @@
 -- The machine reads the shards that the definition by whole parts reads.
-use Rattle.std.proofs.Common.{◌≡◌, ℕ, zero, suc, ◌+◌, ◌*◌, Bool, List, [], ◌∷◌, ◌++◌, length, map, drop, nat_le, bytes_eq, ◌==◌, ◌&&◌, Option, Some, Result, Ok, refl, sym, ap, ◌∙◌, append_assoc, arith}
+use Rattle.std.proofs.Common.{◌≡◌, ℕ, zero, suc, ◌+◌, ◌*◌, Bool, List, [], ◌∷◌, ◌++◌, length, map, drop, nat_le, bytes_eq, not, ◌==◌, ◌&&◌, ◌||◌, Option, Some, Result, Ok, refl, sym, ap, ◌∙◌, append_assoc, arith}
 use Rattle.std.proofs.lemmas.List.{append-nil}
 use Rattle.rv_base.specs.declared.record.Header.{Header}
 use Rattle.rv_base.specs.declared.record.Place.{Place}
@@ -21,16 +21,16 @@ use Rattle.rv_reading.proofs.Binding.{bind_assoc, bind_same, checks_bind}
 use Rattle.rv_reading.proofs.RunningSums.{with_sums-sums, no_sums-sums, stated_alike}
 use Rattle.rv_reading.proofs.RowsRead.{behind_rows, rows_read}
 
-module _ (against : Bool) (lanes : Lanes) (elf input : List ℕ) (h : Header) (output : List ℕ) where
-  abbrev pub digest_checks : ℕ → ShardHead → List Event → List ℕ → List Check
-  digest_checks size head fs bytes =
-      (20, size == head.bytes)
-      ∷ (1, nat_le 256 (length bytes))
-      ∷ (21, full against lanes elf input (bytes_eq (digest_of bytes) (digest lanes (map tuple_read fs)) && bytes_eq (digest_of (drop 128 bytes)) (digest lanes (map tuple_written fs))))
-      ∷ []
+-- the checks at the end of a shard's rows, which have this size and these events
+abbrev pub digest_checks : Bool → Lanes → ℕ → ShardHead → List Event → List ℕ → List Check
+digest_checks against lanes size head fs bytes =
+    (20, size == head.bytes)
+    ∷ (1, nat_le 256 (length bytes))
+    ∷ (21, not against || (bytes_eq (digest_of bytes) (digest lanes (map tuple_read fs)) && bytes_eq (digest_of (drop 128 bytes)) (digest lanes (map tuple_written fs))))
+    ∷ []
 
-  abbrev pub shard_read : ShardHead → Reading (List Row) → Reading Shard
-  shard_read head x = record { part = record { head = head; rows = x.part; reads = digest_of x.left; writes = digest_of (drop 128 x.left) }; place = x.place; left = drop 256 x.left }
+abbrev pub shard_read : ShardHead → Reading (List Row) → Reading Shard
+shard_read head x = record { part = record { head = head; rows = x.part; reads = digest_of x.left; writes = digest_of (drop 128 x.left) }; place = x.place; left = drop 256 x.left }
 
 module _ (against : Bool) (lanes : Lanes) (elf input : List ℕ) (h : Header) (output : List ℕ) (extent : Extent) where
   abbrev run : Phase → List ℕ → State Phase
@@ -57,7 +57,7 @@ module _ (against : Bool) (lanes : Lanes) (elf input : List ℕ) (h : Header) (o
 
   digests_read : {A : Type 0} (r m i : ℕ) (head : ShardHead) (size : ℕ) (es fs : List Event) (p : Place) (bytes : List ℕ) (a : A) (f : A → State Phase)
       → f a ≡ run (Shards m (i + 1) p (sums (es ++ fs))) (drop 256 bytes)
-      → run (Rows zero r m i (inside against lanes elf input h output head size fs) p (sums es)) bytes ≡ (unless_broken i r (digest_checks against lanes elf input h output size head fs bytes) a >>= f)
+      → run (Rows zero r m i (inside against lanes elf input h output head size fs) p (sums es)) bytes ≡ (unless_broken i r (digest_checks against lanes size head fs bytes) a >>= f)
   digests_read r m i head size es fs p bytes a f is =
       let alike = stated_alike against (digest_of bytes) (digest_of (drop 128 bytes)) (digest lanes (map tuple_read fs)) (digest lanes (map tuple_written fs)) in
       let with : Bool → List Check = λ z. (20, size == head.bytes) ∷ (1, nat_le 256 (length bytes)) ∷ (21, z) ∷ [] in
@@ -65,7 +65,7 @@ module _ (against : Bool) (lanes : Lanes) (elf input : List ℕ) (h : Header) (o
       let next : Option (Phase × List ℕ) = Some (Shards m (i + 1) p (with_sums against lanes (sums es) (sums fs)), drop 256 bytes) in
       digests_step r m i (inside against lanes elf input h output head size fs) p (sums es) bytes
       ∙ ap (λ z. unless_broken i r (with z) next >>= onwards run here) alike
-      ∙ checks_bind i r (digest_checks against lanes elf input h output size head fs bytes) next a (onwards run here) f (ap (λ z. run (Shards m (i + 1) p z) (drop 256 bytes)) (with_sums-sums against lanes es fs) ∙ sym is)
+      ∙ checks_bind i r (digest_checks against lanes size head fs bytes) next a (onwards run here) f (ap (λ z. run (Shards m (i + 1) p z) (drop 256 bytes)) (with_sums-sums against lanes es fs) ∙ sym is)
 
   abbrev behind_shard : ℕ → ℕ → List Event → Reading Shard → State Phase
   behind_shard n i es x = run (Shards n (i + 1) x.place (sums (es ++ events (i * h.size) x.part.rows))) x.left
@@ -78,7 +78,7 @@ module _ (against : Bool) (lanes : Lanes) (elf input : List ℕ) (h : Header) (o
       let cs : List Check = (1, nat_le 32 (length bytes)) ∷ (9, head.index == i && head.rows == rows && full against lanes elf input (same_place head p)) ∷ [] in
       let rest = drop 32 bytes in
       let rows_from : List ℕ → Result (Reading (List Row)) Refusal = λ z. read_rows against lanes elf input rows h output i 0 p z in
-      let closed : Reading (List Row) → Result (Reading Shard) Refusal = λ x. unless_broken i rows (digest_checks against lanes elf input h output (rows_length x.part) head (events (i * h.size) x.part) x.left) (shard_read against lanes elf input h output head x) in
+      let closed : Reading (List Row) → Result (Reading Shard) Refusal = λ x. unless_broken i rows (digest_checks against lanes (rows_length x.part) head (events (i * h.size) x.part) x.left) (shard_read head x) in
       let whole : List ℕ → Result (Reading Shard) Refusal = λ z. rows_from z >>= closed in
       let next : Reading Shard → State Phase = behind_shard n i es in
       let begin : begin_shard head ≡ inside against lanes elf input h output head 0 [] = λ t. record { head = head; bytes = 0; sums = no_sums-sums against lanes t } in
@@ -87,7 +87,7 @@ module _ (against : Bool) (lanes : Lanes) (elf input : List ℕ) (h : Header) (o
       let size : 0 + rows_length x.part ≡ rows_length x.part = omega arith in
       let at : i * h.size + 0 ≡ i * h.size = omega arith in
       (λ t. run (Rows zero rows n i (inside against lanes elf input h output head (size t) (events (at t) x.part)) x.place (sums es)) x.left)
-      ∙ digests_read rows n i head (rows_length x.part) es (events (i * h.size) x.part) x.place x.left (shard_read against lanes elf input h output head x) next refl in
+      ∙ digests_read rows n i head (rows_length x.part) es (events (i * h.size) x.part) x.place x.left (shard_read head x) next refl in
       let inner : run (Rows rows 0 n i (begin_shard head) p (sums es)) rest ≡ (whole rest >>= next) =
       ap (λ z. run (Rows rows 0 n i z p (sums es)) rest) begin
       ∙ rows_read against lanes elf input h output extent rows 0 n i rows head 0 [] p (sums es) rest (omega arith)

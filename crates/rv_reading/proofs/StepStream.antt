@@ -148,7 +148,7 @@ module _ (against : Bool) (lanes : Lanes) (elf input : List ℕ) (h : Header) (o
       let cs : List ℕ → List Check = λ bytes. (1, nat_le 16 (length bytes)) ∷ others (entry_of bytes) in
       case_of h.shards j (cs xs) (cs (xs ++ ys)) _ _ 16 16 xs ys
       (Keeps-room 16 16 xs ys (others (entry_of xs)) (others (entry_of (xs ++ ys))) refl (λ le. Keeps-equal (others (entry_of xs)) (others (entry_of (xs ++ ys))) (ap others (sym (entry_front xs ys le)))))
-      (fixed (cs xs) _ _ 16 xs (omega arith) (λ f. leb-true 16 (length xs) (all_hold (cs xs) f).0) (λ le. ap (λ e. Entries n (j + 1) (Some e.cell) p (with_tuples against lanes all (tuple_last e ∷ []) (first_tuple against lanes elf input h output e ∷ []))) (entry_front xs ys le)))
+      (fixed (cs xs) _ _ 16 xs (omega arith) (λ f. leb-true 16 (length xs) (all_hold (cs xs) f).0) (λ le. ap (λ e. Entries n (j + 1) (Some e.cell) p (with_tuples against lanes all (tuple_last e ∷ []) (first_tuple elf h e ∷ []))) (entry_front xs ys le)))
 
   pub step-is_stream : IsStream Phase (step against lanes elf input h output)
   step-is_stream = record {

@@ -28,19 +28,16 @@ module _ (against : Bool) (lanes : Lanes) (elf input : List ℕ) (h : Header) (o
   abbrev sums : List Tuple → List Tuple → Sums
   sums rs ws = tuple_sums against lanes rs ws
 
-  abbrev first_of : TableEntry → Tuple
-  first_of e = first_tuple against lanes elf input h output e
-
   entry_step : (n j : ℕ) (before : Option ℕ) (p : Place) (all : Sums) (bytes : List ℕ)
       → run (Entries (suc n) j before p all) bytes
       ≡ (on_if h.shards j ((1, nat_le 16 (length bytes)) ∷ (22, above before (entry_of bytes).cell) ∷ (23, is_cell h.version (entry_of bytes).cell) ∷ (24, nat_lt 0 (entry_of bytes).time) ∷ [])
-      (Entries n (j + 1) (Some (entry_of bytes).cell) p (with_tuples against lanes all (tuple_last (entry_of bytes) ∷ []) (first_of (entry_of bytes) ∷ []))) (drop 16 bytes)
+      (Entries n (j + 1) (Some (entry_of bytes).cell) p (with_tuples against lanes all (tuple_last (entry_of bytes) ∷ []) (first_tuple elf h (entry_of bytes) ∷ []))) (drop 16 bytes)
       >>= onwards run (Entries (suc n) j before p all, bytes))
   unfolding step
   entry_step n j before p all bytes = runs-step against lanes elf input h output extent (Entries (suc n) j before p all) bytes
 
   abbrev pub behind_entries : ℕ → Option ℕ → Place → List Tuple → List Tuple → List TableEntry × List ℕ → State Phase
-  behind_entries total before p rs ws x = run (Entries zero total (last_cell before x.0) p (sums (rs ++ map tuple_last x.0) (ws ++ map first_of x.0))) x.1
+  behind_entries total before p rs ws x = run (Entries zero total (last_cell before x.0) p (sums (rs ++ map tuple_last x.0) (ws ++ map (first_tuple elf h) x.0))) x.1
 
   pub entries_read : (n j total : ℕ) (before : Option ℕ) (p : Place) (rs ws : List Tuple) (bytes : List ℕ) → j + n ≡ total
       → run (Entries n j before p (sums rs ws)) bytes ≡ (read_entries n h j before bytes >>= behind_entries total before p rs ws)
@@ -56,14 +53,14 @@ module _ (against : Bool) (lanes : Lanes) (elf input : List ℕ) (h : Header) (o
       let whole : TableEntry × List ℕ → Result (List TableEntry × List ℕ) Refusal = λ x. others_from x >>= λ y. Ok (x.0 ∷ y.0, y.1) in
       let next : List TableEntry × List ℕ → State Phase = behind_entries total before p rs ws in
       let with_last = rs ++ tuple_last e ∷ [] in
-      let with_first = ws ++ first_of e ∷ [] in
+      let with_first = ws ++ first_tuple elf h e ∷ [] in
       let to : Sums → Phase = λ z. Entries n (j + 1) (Some e.cell) p z in
-      let added = with_tuples against lanes (sums rs ws) (tuple_last e ∷ []) (first_of e ∷ []) in
+      let added = with_tuples against lanes (sums rs ws) (tuple_last e ∷ []) (first_tuple elf h e ∷ []) in
       let inner : run (to added) rest ≡ (whole (e, rest) >>= next) =
-      ap (λ z. run (to z) rest) (with_tuples-sums against lanes rs ws (tuple_last e ∷ []) (first_of e ∷ []))
+      ap (λ z. run (to z) rest) (with_tuples-sums against lanes rs ws (tuple_last e ∷ []) (first_tuple elf h e ∷ []))
       ∙ entries_read n (j + 1) total (Some e.cell) p with_last with_first rest (omega (arith, sum))
       ∙ bind_same (others_from (e, rest)) (behind_entries total (Some e.cell) p with_last with_first) (λ y. next (e ∷ y.0, y.1))
-      (λ y _. λ t. run (Entries zero total (last_cell (Some e.cell) y.0) p (sums (append_assoc rs (tuple_last e ∷ []) (map tuple_last y.0) t) (append_assoc ws (first_of e ∷ []) (map first_of y.0) t))) y.1)
+      (λ y _. λ t. run (Entries zero total (last_cell (Some e.cell) y.0) p (sums (append_assoc rs (tuple_last e ∷ []) (map tuple_last y.0) t) (append_assoc ws (first_tuple elf h e ∷ []) (map (first_tuple elf h) y.0) t))) y.1)
       ∙ sym (bind_assoc (others_from (e, rest)) (λ y. Ok (e ∷ y.0, y.1)) next) in
       entry_step n j before p (sums rs ws) bytes
       ∙ checks_bind h.shards j cs (Some (to added, rest)) (e, rest) (onwards run (Entries (suc n) j before p (sums rs ws), bytes)) (λ x. whole x >>= next) inner
@@ -92,12 +89,12 @@ module _ (against : Bool) (lanes : Lanes) (elf input : List ℕ) (h : Header) (o
       let cs : List Check = (1, nat_le 4 (length bytes)) ∷ [] in
       let from : List ℕ → Result (List TableEntry × List ℕ) Refusal = λ z. read_entries count h 0 None z in
       let end : List TableEntry × List ℕ → State Phase = λ x.
-      Ok (Entries zero count (last_cell None x.0) p (tuple_sums against lanes (map tuple_last x.0) (map (first_tuple against lanes elf input h output) x.0)), x.1) in
+      Ok (Entries zero count (last_cell None x.0) p (tuple_sums against lanes (map tuple_last x.0) (map (first_tuple elf h) x.0)), x.1) in
       let inner : run (Entries count 0 None p no_sums) rest ≡ (from rest >>= end) =
       ap (λ z. run (Entries count 0 None p z) rest) (no_sums-sums against lanes)
       ∙ entries_read against lanes elf input h output TableAlone count 0 count None p [] [] rest (omega arith)
       ∙ bind_same (from rest) (behind_entries against lanes elf input h output TableAlone count None p [] []) end
-      (λ x _. runs-step against lanes elf input h output TableAlone (Entries zero count (last_cell None x.0) p (tuple_sums against lanes (map tuple_last x.0) (map (first_tuple against lanes elf input h output) x.0))) x.1) in
+      (λ x _. runs-step against lanes elf input h output TableAlone (Entries zero count (last_cell None x.0) p (tuple_sums against lanes (map tuple_last x.0) (map (first_tuple elf h) x.0))) x.1) in
       count_step TableAlone refl i p no_sums bytes
       ∙ checks_bind h.shards 0 cs (Some (Entries count 0 None p no_sums, rest)) rest (onwards run (Shards zero i p no_sums, bytes)) (λ z. from z >>= end) inner
 

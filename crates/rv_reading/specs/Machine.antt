@@ -105,16 +105,16 @@ abbrev pub shards_events : Header → ℕ → List Shard → List Event
 shards_events h i [] = []
 shards_events h i (s ∷ ss) = events (i * h.size) s.rows ++ shards_events h (i + 1) ss
 
+-- the tuple by which a cell of the table is written before the first step of a program
+abbrev pub first_tuple : List ℕ → Header → TableEntry → Tuple
+first_tuple elf h e = tuple_first (initial_value (image h.version elf)) e
+
 -- the cell of the last entry, if there is one
 abbrev pub last_cell : Option ℕ → List TableEntry → Option ℕ
 last_cell before [] = before
 last_cell before (e ∷ es) = last_cell (Some e.cell) es
 
 module _ (against : Bool) (lanes : Lanes) (elf input : List ℕ) (h : Header) (output : List ℕ) where
-  -- the tuple by which a cell of the table is written before the first step
-  abbrev pub first_tuple : TableEntry → Tuple
-  first_tuple e = tuple_first (initial_value (image h.version elf)) e
-
   abbrev pub good_digests : List ℕ → Sums → Bool
   good_digests bytes s = full against lanes elf input (bytes_eq (digest_of bytes) s.reads && bytes_eq (digest_of (drop 128 bytes)) s.writes)
 
@@ -144,7 +144,7 @@ module _ (against : Bool) (lanes : Lanes) (elf input : List ℕ) (h : Header) (o
       let e = entry_of bytes in
       on_if h.shards j
       ((1, nat_le 16 (length bytes)) ∷ (22, above before e.cell) ∷ (23, is_cell h.version e.cell) ∷ (24, nat_lt 0 e.time) ∷ [])
-      (Entries n (j + 1) (Some e.cell) p (with_tuples against lanes all (tuple_last e ∷ []) (first_tuple e ∷ [])))
+      (Entries n (j + 1) (Some e.cell) p (with_tuples against lanes all (tuple_last e ∷ []) (first_tuple elf h e ∷ [])))
       (drop 16 bytes)
 
   -- the step of a reading that goes so far

@@ -48,7 +48,7 @@ module _ (against : Bool) (lanes : Lanes) (elf input : List ℕ) (h : Header) (o
       → runs extent (Entries n j before p (tuple_sums against lanes rs ws)) bytes
       ≡ (read_entries n h j before bytes
       >>= λ x. runs extent
-      (Entries zero (j + n) (last_cell before x.0) p (tuple_sums against lanes (rs ++ map tuple_last x.0) (ws ++ map (first_tuple against lanes elf input h output) x.0)))
+      (Entries zero (j + n) (last_cell before x.0) p (tuple_sums against lanes (rs ++ map tuple_last x.0) (ws ++ map (first_tuple elf h) x.0)))
       x.1)
 
   -- Shard i alone, from a stated place: the place behind it, the digests of its rows, and the bytes left.
@@ -71,4 +71,4 @@ module _ (against : Bool) (lanes : Lanes) (elf input : List ℕ) (h : Header) (o
       → runs TableAlone (Shards 0 i p no_sums) bytes
       ≡ (unless_broken h.shards 0 ((1, nat_le 4 (length bytes)) ∷ []) (drop 4 bytes)
       >>= λ rest. read_entries (u32_at bytes 0) h 0 None rest
-      >>= λ x. Ok (Entries zero (u32_at bytes 0) (last_cell None x.0) p (tuple_sums against lanes (map tuple_last x.0) (map (first_tuple against lanes elf input h output) x.0)), x.1))
+      >>= λ x. Ok (Entries zero (u32_at bytes 0) (last_cell None x.0) p (tuple_sums against lanes (map tuple_last x.0) (map (first_tuple elf h) x.0)), x.1))
