@@ -8,39 +8,39 @@ use Rattle.rv_spec.specs.Checks.{first_broken, refused_by}
 use Rattle.rv_spec.specs.Reading.{header_of, header_checks}
 use Rattle.rv_reading.specs.Stream.{State, StepOf, reads, patient, feed, outcome}
 use Rattle.rv_reading.specs.Machine.{Phase, step, first_phase, opened}
-use Rattle.rv_reading.specs.Judging.{IsFront, state_behind, StateTellsFile, FileStaysRefused, FileStateWaits, MachineIsStream, PiecesJoin, CutsDontMatter, StateTellsRefusals, RefusalsStay, StatesWait}
+use Rattle.rv_reading.specs.Judging.{IsFront, state_behind, StateTellsFile, FileStaysRefused, FileStateWaits, MachineIsStream, ExtentsAreStreams, InEachStream, PiecesJoin, CutsDontMatter, StateTellsRefusals, RefusalsStay, StatesWait}
 use Rattle.rv_reading.proofs.StreamLaws.{feed-feed, feed-outcome, state_refuses, state_tells, state_waits}
 use Rattle.rv_reading.proofs.StepStream.{step-is_stream, step_to-is_stream}
 use Rattle.rv_reading.proofs.StepWaits.{waits_below}
 use Rattle.rv_reading.proofs.FrontRead.{front_is_judged, front_has_room}
 
+pub pieces_join : InEachStream PiecesJoin
+pieces_join move is s piece more = feed-feed move is s piece more
+
+pub cuts_dont_matter : InEachStream CutsDontMatter
+cuts_dont_matter move is s piece rest = feed-outcome move is s piece rest
+
+pub refusals_stay : InEachStream RefusalsStay
+refusals_stay move is p bytes rest r e = (state_refuses move is p bytes r e).1 rest
+
+pub state_tells_refusals : InEachStream StateTellsRefusals
+state_tells_refusals move is p bytes r = (
+  λ e.
+      let told = state_refuses move is p bytes r e in
+      (sym (ap (λ z. reads move p z) (append-nil bytes)) ∙ told.1 [], told.0),
+  λ f. state_tells move is p bytes r f.0 f.1,
+)
+
 module _ (against : Bool) (lanes : Lanes) (elf input : List ℕ) (h : Header) (output : List ℕ) where
-  abbrev move : StepOf Phase
-  move = step against lanes elf input h output
-
   pub machine_is_stream : MachineIsStream against lanes elf input h output
-  machine_is_stream extent = step_to-is_stream against lanes elf input h output extent
+  machine_is_stream = step-is_stream against lanes elf input h output
 
-  pub pieces_join : PiecesJoin against lanes elf input h output
-  pieces_join s piece more = feed-feed move (step-is_stream against lanes elf input h output) s piece more
-
-  pub cuts_dont_matter : CutsDontMatter against lanes elf input h output
-  cuts_dont_matter s piece rest = feed-outcome move (step-is_stream against lanes elf input h output) s piece rest
-
-  pub refusals_stay : RefusalsStay against lanes elf input h output
-  refusals_stay p bytes rest r e = (state_refuses move (step-is_stream against lanes elf input h output) p bytes r e).1 rest
-
-  pub state_tells_refusals : StateTellsRefusals against lanes elf input h output
-  state_tells_refusals p bytes r = (
-    λ e.
-        let told = state_refuses move (step-is_stream against lanes elf input h output) p bytes r e in
-        (sym (ap (λ z. reads move p z) (append-nil bytes)) ∙ told.1 [], told.0),
-    λ f. state_tells move (step-is_stream against lanes elf input h output) p bytes r f.0 f.1,
-  )
+  pub extents_are_streams : ExtentsAreStreams against lanes elf input h output
+  extents_are_streams extent = step_to-is_stream against lanes elf input h output extent
 
   pub states_wait : StatesWait against lanes elf input h output
   states_wait p bytes s e =
-      let waiting = state_waits move (step-is_stream against lanes elf input h output) p bytes s e in
+      let waiting = state_waits (step against lanes elf input h output) machine_is_stream p bytes s e in
       (waiting, waits_below against lanes elf input h output s.0 s.1 waiting)
 
 -- ---- a file
@@ -63,7 +63,7 @@ module _ (against : Bool) (lanes : Lanes) (elf input front : List ℕ) where
   tells_behind : (bytes : List ℕ) (r : Refusal) → IsFront front → (feed file_move (opened against lanes elf input front) bytes ≡ Err r) ↔ ((outcome file_move (opened against lanes elf input front) bytes ≡ Err r) × (¬ (r.rule ≡ 1)))
   tells_behind bytes r size =
       opened_is (λ s. (feed file_move s bytes ≡ Err r) ↔ ((outcome file_move s bytes ≡ Err r) × (¬ (r.rule ≡ 1)))) refused
-      (state_tells_refusals against lanes elf input (header_of front) (drop 173 front) start bytes r)
+      (state_tells_refusals file_move (machine_is_stream against lanes elf input (header_of front) (drop 173 front)) start bytes r)
     where
       refused : (t : Refusal) → opened against lanes elf input front ≡ Err t → (feed file_move (Err t) bytes ≡ Err r) ↔ ((outcome file_move (Err t) bytes ≡ Err r) × (¬ (r.rule ≡ 1)))
       refused t e = (λ f. (f, let same : t ≡ r = cc in λ one. front_has_room against lanes elf input front t size e (ap (λ (z : Refusal). z.rule) same ∙ one)), λ f. f.0)
@@ -82,7 +82,7 @@ file_stays_refused against lanes elf input front bytes more r size e =
     let h = header_of front in
     let output = drop 173 front in
     front_is_judged against lanes elf input front (bytes ++ more) size
-    ∙ sym (cuts_dont_matter against lanes elf input h output (opened against lanes elf input front) bytes more)
+    ∙ sym (cuts_dont_matter (step against lanes elf input h output) (machine_is_stream against lanes elf input h output) (opened against lanes elf input front) bytes more)
     ∙ ap (λ s. outcome (step against lanes elf input h output) s more) e
 
 pub file_state_waits : FileStateWaits

@@ -5,7 +5,7 @@ use Rattle.rv_base.specs.declared.record.Refusal.{Refusal}
 use Rattle.rv_spec.specs.Digest.{Lanes}
 use Rattle.rv_spec.specs.Reading.{header_of, read_file}
 use Rattle.rv_spec.specs.Verdict.{verdict}
-use Rattle.rv_reading.specs.Stream.{IsStream, State, reads, patient, settle, feed, outcome}
+use Rattle.rv_reading.specs.Stream.{StepOf, IsStream, State, reads, patient, settle, feed, outcome}
 use Rattle.rv_reading.specs.Machine.{Phase, Extent, step, step_to, opened, judged, finding, told}
 
 -- ---- a whole file
@@ -67,30 +67,34 @@ FileStateWaits = (against : Bool) (lanes : Lanes) (elf input front bytes : List 
 -- ---- from any phase on
 
 module _ (against : Bool) (lanes : Lanes) (elf input : List ℕ) (h : Header) (output : List ℕ) where
-  -- What a step found stays so, whatever bytes come behind, in a reading of any extent.
+  -- What a step found stays so, whatever bytes come behind.
   abbrev pub MachineIsStream : Type 0
-  MachineIsStream = (extent : Extent) → IsStream Phase (step_to against lanes elf input h output extent)
+  MachineIsStream = IsStream Phase (step against lanes elf input h output)
 
-  -- Feeding a piece and then another is feeding both joined.
-  abbrev pub PiecesJoin : Type 0
-  PiecesJoin = (s : State Phase) (piece more : List ℕ)
-      → feed (step against lanes elf input h output) (feed (step against lanes elf input h output) s piece) more ≡ feed (step against lanes elf input h output) s (piece ++ more)
+  abbrev pub ExtentsAreStreams : Type 0
+  ExtentsAreStreams = (extent : Extent) → IsStream Phase (step_to against lanes elf input h output extent)
 
-  -- What comes of the state after a piece is what comes of the state before, with the piece in front.
-  abbrev pub CutsDontMatter : Type 0
-  CutsDontMatter = (s : State Phase) (piece rest : List ℕ)
-      → outcome (step against lanes elf input h output) (feed (step against lanes elf input h output) s piece) rest ≡ outcome (step against lanes elf input h output) s (piece ++ rest)
-
-  -- A state is a refusal exactly where the bytes so far are refused by another rule than 1.
-  abbrev pub StateTellsRefusals : Type 0
-  StateTellsRefusals = (p : Phase) (bytes : List ℕ) (r : Refusal)
-      → (settle (step against lanes elf input h output) p bytes ≡ Err r) ↔ ((reads (step against lanes elf input h output) p bytes ≡ Err r) × (¬ (r.rule ≡ 1)))
-
-  -- Then whatever follows is refused so.
-  abbrev pub RefusalsStay : Type 0
-  RefusalsStay = (p : Phase) (bytes rest : List ℕ) (r : Refusal) → settle (step against lanes elf input h output) p bytes ≡ Err r → reads (step against lanes elf input h output) p (bytes ++ rest) ≡ Err r
-
-  -- A state that isn't a refusal waits for bytes or ends there, and it holds fewer than 256 bytes.
+  -- A state that isn't a refusal waits for bytes or may end there, and it holds fewer than 256 bytes.
   abbrev pub StatesWait : Type 0
   StatesWait = (p : Phase) (bytes : List ℕ) (s : Phase × List ℕ)
       → settle (step against lanes elf input h output) p bytes ≡ Ok s → (patient (step against lanes elf input h output) s.0 s.1 ≡ Ok None) × (length s.1 < 256)
+
+-- a law of all steps that are streams
+abbrev pub InEachStream : (StepOf Phase → Type 0) → Type 0
+InEachStream law = (move : StepOf Phase) → IsStream Phase move → law move
+
+-- Feeding a piece and then another is feeding both joined.
+abbrev pub PiecesJoin : StepOf Phase → Type 0
+PiecesJoin move = (s : State Phase) (piece more : List ℕ) → feed move (feed move s piece) more ≡ feed move s (piece ++ more)
+
+-- What comes of the state after a piece is what comes of the state before, with the piece in front.
+abbrev pub CutsDontMatter : StepOf Phase → Type 0
+CutsDontMatter move = (s : State Phase) (piece rest : List ℕ) → outcome move (feed move s piece) rest ≡ outcome move s (piece ++ rest)
+
+-- A state is a refusal exactly where the bytes so far are refused by another rule than 1.
+abbrev pub StateTellsRefusals : StepOf Phase → Type 0
+StateTellsRefusals move = (p : Phase) (bytes : List ℕ) (r : Refusal) → (settle move p bytes ≡ Err r) ↔ ((reads move p bytes ≡ Err r) × (¬ (r.rule ≡ 1)))
+
+-- Then whatever follows is refused so.
+abbrev pub RefusalsStay : StepOf Phase → Type 0
+RefusalsStay move = (p : Phase) (bytes rest : List ℕ) (r : Refusal) → settle move p bytes ≡ Err r → reads move p (bytes ++ rest) ≡ Err r

@@ -4,7 +4,7 @@
 //! Each law is the contract of a function that does nothing. They hold for every lanes, for both
 //! versions, and for form alone as for a program and an input.
 
-ghost use Rattle.rv_reading.specs.Judging.{CutsDontMatter, FileStateWaits, FileStaysRefused, FrontIsJudged, FrontStaysRefused, JudgedIsRead, MachineIsStream, PiecesJoin, RefusalsStay, RefusedAtFront, StateTellsFile, StateTellsRefusals, StatesWait, VerdictBehindFront, VerdictIsTold};
+ghost use Rattle.rv_reading.specs.Judging.{CutsDontMatter, ExtentsAreStreams, FileStateWaits, FileStaysRefused, FrontIsJudged, FrontStaysRefused, InEachStream, JudgedIsRead, MachineIsStream, PiecesJoin, RefusalsStay, RefusedAtFront, StateTellsFile, StateTellsRefusals, StatesWait, VerdictBehindFront, VerdictIsTold};
 ghost use Rattle.rv_reading.specs.Machine.{InEachReading};
 ghost use Rattle.rv_reading.specs.Parts.{EntriesAreRead, RowsAreRead, ShardAloneIsRead, ShardsAloneAreRead, ShardsAreRead, TableAloneIsRead, WholeFileIsRead};
 
@@ -28,24 +28,26 @@ pub fn front_is_refused()
     ensures stays { FrontStaysRefused }
 {}
 
-/// Each step takes a byte at least, and what it found stays so, whatever bytes follow.
+/// Each step takes a byte at least, and what it found stays so, whatever bytes follow: in a whole
+/// file, and in shards or the table alone.
 pub fn machine_is_stream()
-    ensures { InEachReading MachineIsStream }
+    ensures file { InEachReading MachineIsStream }
+    ensures extents { InEachReading ExtentsAreStreams }
 {}
 
-/// Cuts don't matter: a piece and then another leave the state that both joined leave, and what
+/// Cuts don't matter to a stream: a piece and then another leave the state that both joined leave, and what
 /// comes of a state behind a piece is what comes of the state before it with the piece in front.
 pub fn cuts_dont_matter()
-    ensures pieces { InEachReading PiecesJoin }
-    ensures outcome { InEachReading CutsDontMatter }
+    ensures pieces { InEachStream PiecesJoin }
+    ensures outcome { InEachStream CutsDontMatter }
 {}
 
 /// From any phase on, a state is a refusal exactly where the bytes so far are refused by another rule
 /// than 1, and then they are refused so, whatever follows. A state that is none waits, with fewer
 /// than 256 bytes.
 pub fn state_tells()
-    ensures refusals { InEachReading StateTellsRefusals }
-    ensures stay { InEachReading RefusalsStay }
+    ensures refusals { InEachStream StateTellsRefusals }
+    ensures stay { InEachStream RefusalsStay }
     ensures waits { InEachReading StatesWait }
 {}
 
