@@ -1,0 +1,16 @@
+pub mod StreamLaws
+pub mod Fronts
+pub mod CheckLists
+pub mod StepStream
+pub mod StepWaits
+pub mod Binding
+pub mod RunningSums
+pub mod RowsRead
+pub mod ShardsRead
+pub mod TableRead
+pub mod ShardsEvents
+pub mod FileRead
+pub mod FrontRead
+pub mod Pieces
+pub mod Laws
+pub mod Worked

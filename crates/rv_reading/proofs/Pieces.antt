@@ -1,0 +1,89 @@
+-- The machine in pieces, and what its state tells.
+use Rattle.std.proofs.Common.{◌≡◌, ◌↔◌, ◌<◌, ℕ, Bool, List, [], ◌++◌, length, drop, Option, Some, None, Ok, Err, refl, sym, ap, subst, ◌∙◌}
+use Rattle.std.proofs.lemmas.List.{append-nil}
+use Rattle.rv_base.specs.declared.record.Header.{Header}
+use Rattle.rv_base.specs.declared.record.Refusal.{Refusal}
+use Rattle.rv_spec.specs.Digest.{Lanes}
+use Rattle.rv_spec.specs.Checks.{first_broken, refused_by}
+use Rattle.rv_spec.specs.Reading.{header_of, header_checks}
+use Rattle.rv_reading.specs.Stream.{State, StepOf, reads, patient, feed, outcome}
+use Rattle.rv_reading.specs.Machine.{Phase, step, first_phase, opened}
+use Rattle.rv_reading.specs.Judging.{IsFront, state_behind, StateTellsFile, FileStaysRefused, FileStateWaits, MachineIsStream, ExtentsAreStreams, InEachStream, PiecesJoin, CutsDontMatter, StateTellsRefusals, RefusalsStay, StatesWait}
+use Rattle.rv_reading.proofs.StreamLaws.{feed-feed, feed-outcome, state_refuses, state_tells, state_waits}
+use Rattle.rv_reading.proofs.StepStream.{step-is_stream, step_to-is_stream}
+use Rattle.rv_reading.proofs.StepWaits.{waits_below}
+use Rattle.rv_reading.proofs.FrontRead.{front_is_judged, front_has_room}
+
+pub pieces_join : InEachStream PiecesJoin
+pieces_join move is s piece more = feed-feed move is s piece more
+
+pub cuts_dont_matter : InEachStream CutsDontMatter
+cuts_dont_matter move is s piece rest = feed-outcome move is s piece rest
+
+pub refusals_stay : InEachStream RefusalsStay
+refusals_stay move is p bytes rest r e = (state_refuses move is p bytes r e).1 rest
+
+pub state_tells_refusals : InEachStream StateTellsRefusals
+state_tells_refusals move is p bytes r = (
+  λ e.
+      let told = state_refuses move is p bytes r e in
+      (sym (ap (λ z. reads move p z) (append-nil bytes)) ∙ told.1 [], told.0),
+  λ f. state_tells move is p bytes r f.0 f.1,
+)
+
+module _ (against : Bool) (lanes : Lanes) (elf input : List ℕ) (h : Header) (output : List ℕ) where
+  pub machine_is_stream : MachineIsStream against lanes elf input h output
+  machine_is_stream = step-is_stream against lanes elf input h output
+
+  pub extents_are_streams : ExtentsAreStreams against lanes elf input h output
+  extents_are_streams extent = step_to-is_stream against lanes elf input h output extent
+
+  pub states_wait : StatesWait against lanes elf input h output
+  states_wait p bytes s e =
+      let waiting = state_waits (step against lanes elf input h output) machine_is_stream p bytes s e in
+      (waiting, waits_below against lanes elf input h output s.0 s.1 waiting)
+
+-- ---- a file
+
+module _ (against : Bool) (lanes : Lanes) (elf input front : List ℕ) where
+  abbrev file_move : StepOf Phase
+  file_move = step against lanes elf input (header_of front) (drop 173 front)
+
+  abbrev start : Phase
+  start = first_phase against lanes elf input (header_of front)
+
+  -- a front is refused, or the machine begins
+  opened_is : (P : State Phase → Type 0) → ((r : Refusal) → opened against lanes elf input front ≡ Err r → P (Err r)) → P (Ok (start, [])) → P (opened against lanes elf input front)
+  opened_is P refused begun = go (first_broken (header_checks against lanes elf input front)) refl
+    where
+      go : (o : Option ℕ) → first_broken (header_checks against lanes elf input front) ≡ o → P (refused_by 0 0 o (start, []))
+      go None e = begun
+      go (Some rule) e = refused (record { shard = 0; row = 0; rule = rule }) (ap (λ z. refused_by 0 0 z (start, [])) e)
+
+  tells_behind : (bytes : List ℕ) (r : Refusal) → IsFront front → (feed file_move (opened against lanes elf input front) bytes ≡ Err r) ↔ ((outcome file_move (opened against lanes elf input front) bytes ≡ Err r) × (¬ (r.rule ≡ 1)))
+  tells_behind bytes r size =
+      opened_is (λ s. (feed file_move s bytes ≡ Err r) ↔ ((outcome file_move s bytes ≡ Err r) × (¬ (r.rule ≡ 1)))) refused
+      (state_tells_refusals file_move (machine_is_stream against lanes elf input (header_of front) (drop 173 front)) start bytes r)
+    where
+      refused : (t : Refusal) → opened against lanes elf input front ≡ Err t → (feed file_move (Err t) bytes ≡ Err r) ↔ ((outcome file_move (Err t) bytes ≡ Err r) × (¬ (r.rule ≡ 1)))
+      refused t e = (λ f. (f, let same : t ≡ r = cc in λ one. front_has_room against lanes elf input front t size e (ap (λ (z : Refusal). z.rule) same ∙ one)), λ f. f.0)
+
+  waits_behind : (bytes : List ℕ) (s : Phase × List ℕ) → feed file_move (opened against lanes elf input front) bytes ≡ Ok s → (patient file_move s.0 s.1 ≡ Ok None) × (length s.1 < 256)
+  waits_behind bytes s =
+      opened_is (λ z. feed file_move z bytes ≡ Ok s → (patient file_move s.0 s.1 ≡ Ok None) × (length s.1 < 256)) (λ t _ f. absurd cc)
+      (λ f. states_wait against lanes elf input (header_of front) (drop 173 front) start bytes s f)
+
+pub state_tells_file : StateTellsFile
+state_tells_file against lanes elf input front bytes r size =
+    subst (λ s. (state_behind against lanes elf input front bytes ≡ Err r) ↔ ((s ≡ Err r) × (¬ (r.rule ≡ 1)))) (sym (front_is_judged against lanes elf input front bytes size)) (tells_behind against lanes elf input front bytes r size)
+
+pub file_stays_refused : FileStaysRefused
+file_stays_refused against lanes elf input front bytes more r size e =
+    let h = header_of front in
+    let output = drop 173 front in
+    front_is_judged against lanes elf input front (bytes ++ more) size
+    ∙ sym (cuts_dont_matter (step against lanes elf input h output) (machine_is_stream against lanes elf input h output) (opened against lanes elf input front) bytes more)
+    ∙ ap (λ s. outcome (step against lanes elf input h output) s more) e
+
+pub file_state_waits : FileStateWaits
+file_state_waits against lanes elf input front bytes s e = waits_behind against lanes elf input front bytes s e

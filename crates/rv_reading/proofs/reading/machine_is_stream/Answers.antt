@@ -1,0 +1,8 @@
+use Rattle.rv_reading.proofs.Laws.{machine_is_stream, extents_are_streams}
+use Rattle.rv_reading.proofs.reading.machine_is_stream.Goals as goal
+
+pub returns-clause-file : goal.returns-clause-file
+returns-clause-file c = machine_is_stream
+
+pub returns-clause-extents : goal.returns-clause-extents
+returns-clause-extents c = extents_are_streams

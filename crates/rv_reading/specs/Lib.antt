@@ -1,0 +1,4 @@
+pub mod Stream
+pub mod Machine
+pub mod Parts
+pub mod Judging
