@@ -43,7 +43,7 @@ fn add_two(sum: &mut [u64; 16], t: Tuple, u: Tuple)
     add_lanes(sum, &second);
 }
 
-// Adds a tuple to the list. A second one beside it would cost nothing: its lanes are dropped.
+// Adds a tuple to the list. It is hashed beside itself, and the second lanes are dropped.
 fn add_one(sum: &mut [u64; 16], t: Tuple)
     ensures { (ts : List Tuple) → sum.old ≡ digest sha_lanes ts → sum.new ≡ digest sha_lanes (ts ++ t ∷ []) }
 {
