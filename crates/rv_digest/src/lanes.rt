@@ -2,10 +2,11 @@
 
 ghost use Rattle.std.specs.Prelude.{◌≡◌, ℕ, ◌∷◌, List};
 ghost use Rattle.rv_base.specs.declared.record.Tuple.{Tuple};
-ghost use Rattle.rv_spec.specs.Digest.{sha_lanes, tiny_lanes, tuple_bytes};
+ghost use Rattle.rv_spec.specs.Digest.{digest, sha_lanes, tiny_lanes, tuple_bytes};
 
 use crate::words::words;
 use rv_base::Tuple;
+use rv_lanes::add_lanes;
 use sha2::{Digest, Sha512};
 
 /// Sixteen numbers below 2^64 for each tuple.
@@ -16,6 +17,17 @@ pub trait Lanes: Drop {
     /// The sixteen lanes of a tuple.
     fn of(&self, t: Tuple) -> [u64; 16]
         ensures { result ≡ lanes t };
+
+    /// The sum of the lanes of a list's tuples, lane by lane, modulo 2^64.
+    fn sum_of(&self, tuples: &[Tuple]) -> [u64; 16]
+        ensures { result ≡ digest lanes tuples.now }
+    {
+        let mut sum = [0; 16];
+        for t in tuples {
+            add_lanes(&mut sum, &self.of(*t));
+        }
+        sum
+    }
 }
 
 /// The lanes by SHA-512 (FIPS 180-4): those of the byte 0 before the tuple's 16 bytes, then those
@@ -31,6 +43,10 @@ impl Lanes for ShaLanes {
         lanes[..8].copy_from_slice(&words::<8>(&Sha512::digest(&message(0, t))));
         lanes[8..].copy_from_slice(&words::<8>(&Sha512::digest(&message(1, t))));
         lanes
+    }
+
+    fn sum_of(&self, tuples: &[Tuple]) -> [u64; 16] {
+        rv_lanes::sum_of(tuples)
     }
 }
 

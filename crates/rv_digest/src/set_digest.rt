@@ -9,7 +9,7 @@ ghost use Rattle.rv_spec.specs.Reading.{digest_of};
 use crate::lanes::Lanes;
 use crate::words::{bytes_of, words};
 use rv_base::Tuple;
-use std::simd::prelude::*;
+use rv_lanes::add_lanes;
 
 /// The sum of the lanes of a list's tuples, lane by lane, modulo 2^64. The order and the grouping
 /// of the tuples do not matter.
@@ -42,11 +42,9 @@ impl SetDigest {
         ensures of_list { (ts : List Tuple) → self.old.lanes ≡ digest L.lanes ts
             → self.new.lanes ≡ digest L.lanes (ts ++ tuples.now) }
     {
-        let mut sum = SetDigest::zero();
-        for t in tuples {
-            sum.add_tuple(l, *t);
-        }
-        self.add(&sum);
+        self.add(&SetDigest {
+            lanes: l.sum_of(tuples),
+        });
     }
 
     /// Joins another list to the list.
@@ -55,10 +53,7 @@ impl SetDigest {
         ensures of_list { (lanes : LanesOf) (xs ys : List Tuple) → self.old.lanes ≡ digest lanes xs
             → other.now.lanes ≡ digest lanes ys → self.new.lanes ≡ digest lanes (xs ++ ys) }
     {
-        let low = u64x8::from_slice(&self.lanes[..8]) + u64x8::from_slice(&other.lanes[..8]);
-        let high = u64x8::from_slice(&self.lanes[8..]) + u64x8::from_slice(&other.lanes[8..]);
-        low.copy_to_slice(&mut self.lanes[..8]);
-        high.copy_to_slice(&mut self.lanes[8..]);
+        add_lanes(&mut self.lanes, &other.lanes);
     }
 
     /// Whether all sixteen lanes are equal.

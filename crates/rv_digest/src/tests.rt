@@ -63,6 +63,60 @@ fn lanes_are_sha_512(rt: HostRuntime) {
     assert_eq!(rt; TinyLanes.of(ONE), [0; 16]);
 }
 
+// Lanes 0, 7, 8 and 15 of the digests of the first 0, 1 and more of five tuples.
+const ENDS_OF_DIGESTS: [[u64; 4]; 6] = [
+    [0, 0, 0, 0],
+    [
+        0xc73f_7d47_9f9f_0d0a,
+        0x5495_a06c_126e_6375,
+        0x3365_2f0c_d3af_7ba2,
+        0xffb8_c131_dea0_da4a,
+    ],
+    [
+        0x127e_ff21_44ed_6719,
+        0xd9c9_3b23_0b54_572f,
+        0x42cb_52ff_273a_9864,
+        0x7655_0927_0ee1_15bb,
+    ],
+    [
+        0x0aac_1da6_c46f_9a25,
+        0xa503_493b_d2b4_6d63,
+        0x0770_f214_d7f6_1823,
+        0xacbc_e796_19dc_2728,
+    ],
+    [
+        0x0815_7dd6_3db2_f599,
+        0x2b75_b0bc_8aab_6a1f,
+        0x457d_0003_3d07_aa41,
+        0x97d7_2e4a_60e4_2588,
+    ],
+    [
+        0x5f24_df22_924b_4d31,
+        0x6a97_4cf4_8b94_d870,
+        0x17cf_bfa8_f96a_2249,
+        0xb929_3aee_f4b0_430a,
+    ],
+];
+
+#[test]
+fn lists_of_up_to_five_tuples(rt: HostRuntime) {
+    let mut tuples = [OTHER; 5];
+    for i in 0..5 {
+        tuples[i] = Tuple {
+            cell: i as u32,
+            value: 0x0102_0304 + i as u32,
+            time: 0x1122_3344_5566_7788 + i as u64,
+        };
+    }
+    for (count, ends) in ENDS_OF_DIGESTS.iter().enumerate() {
+        let mut digest = SetDigest::zero();
+        digest.add_tuples(&ShaLanes, &tuples[..count]);
+        let lanes = digest.lanes;
+        assert_eq!(rt; [lanes[0], lanes[7], lanes[8], lanes[15]], *ends);
+        assert_eq!(rt; TinyLanes.sum_of(&tuples[..count]), [0; 16]);
+    }
+}
+
 #[test]
 fn order_and_grouping_do_not_matter(rt: HostRuntime) {
     let mut forward = SetDigest::zero();

@@ -10,10 +10,11 @@ use crate::faults::Fault;
 use arrayvec::ArrayVec;
 use rv_base::{Access, Bytes, End, NoMemory, Tuple, time_of};
 use rv_decode::{Instr, Op, decode};
-use rv_digest::{SetDigest, ShaLanes};
+use rv_digest::ShaLanes;
 use rv_elf::Image;
 use rv_file::{Header, ShardHead, table_bytes, write_head, write_header};
 use rv_mem::Memory;
+use rv_pairs::Pairing;
 use rv_row::{Row, write_row};
 use sha2::{Digest, Sha512};
 use std::alloc::{AllocError, Global};
@@ -63,7 +64,7 @@ pub fn record(
         consumed: 0,
         length: 0,
     };
-    let mut replay = Replay::new(alloc, image);
+    let mut replay = Replay::new(alloc, image).map_err(|_| Fault::Memory)?;
     for step in 0..ended.steps {
         replay.step(u64::from(step)).map_err(|_| Fault::Memory)?;
     }
@@ -148,20 +149,18 @@ type Accesses = ArrayVec<Access, 8>;
 struct Replay<'a> {
     pc: u32,
     memory: Memory<'a>,
-    reads: SetDigest,
-    writes: SetDigest,
+    pairing: Pairing,
     rows: Vec<u8>,
 }
 
 impl<'a> Replay<'a> {
-    fn new(alloc: Global, image: &Image<'a>) -> Replay<'a> {
-        Replay {
+    fn new(alloc: Global, image: &Image<'a>) -> Result<Replay<'a>, AllocError> {
+        Ok(Replay {
             pc: image.entry(),
             memory: Memory::new(alloc, image),
-            reads: SetDigest::zero(),
-            writes: SetDigest::zero(),
+            pairing: Pairing::new(alloc)?,
             rows: Vec::new(alloc),
-        }
+        })
     }
 
     /// Makes the next step, and adds its row and the tuples that it reads and writes.
@@ -190,8 +189,7 @@ impl<'a> Replay<'a> {
             value: access.new,
             time: time_of(step, access.slot),
         };
-        self.reads.add_tuple(&ShaLanes, read);
-        self.writes.add_tuple(&ShaLanes, written);
+        self.pairing.access(&ShaLanes, read, written);
     }
 
     fn next_row(&mut self, step: u64) -> Result<Row, NoMemory>
@@ -301,7 +299,7 @@ impl<'a> Replay<'a> {
     }
 
     /// The shard's bytes: its head, its rows and its digests.
-    fn finish(self, alloc: Global, entry: u32, rows: u32) -> Result<Bytes, AllocError> {
+    fn finish(mut self, alloc: Global, entry: u32, rows: u32) -> Result<Bytes, AllocError> {
         let row_bytes = self.rows.len().min(u32::MAX as usize) as u32;
         let head = ShardHead {
             index: 0,
@@ -311,11 +309,12 @@ impl<'a> Replay<'a> {
             output: 0,
             bytes: row_bytes,
         };
+        let (reads, writes) = self.pairing.take(&ShaLanes);
         let mut bytes = Vec::new(alloc);
         bytes.extend_from_slice(&write_head(&head))?;
         bytes.extend_from_slice(self.rows.as_slice())?;
-        bytes.extend_from_slice(&self.reads.to_bytes())?;
-        bytes.extend_from_slice(&self.writes.to_bytes())?;
+        bytes.extend_from_slice(&reads.to_bytes())?;
+        bytes.extend_from_slice(&writes.to_bytes())?;
         Ok(Bytes::of(bytes))
     }
 }

@@ -14,6 +14,10 @@ add_lanes-tuple : (lanes : Lanes) (xs : List ℕ) (t : Tuple) → add_lanes xs (
 unfolding digest_lane
 add_lanes-tuple lanes xs t = λ i. map (λ j. reduced (slice_index xs j) (slice_index (lanes t) j) (2 ^ 64) i) lane_numbers
 
--- one more tuple
-pub digest-snoc : (lanes : Lanes) (ts : List Tuple) (t : Tuple) → add_lanes (digest lanes ts) (lanes t) ≡ digest lanes (ts ++ t ∷ [])
+-- the lanes of one more tuple
+digest-snoc : (lanes : Lanes) (ts : List Tuple) (t : Tuple) → add_lanes (digest lanes ts) (lanes t) ≡ digest lanes (ts ++ t ∷ [])
 digest-snoc lanes ts t = add_lanes-tuple lanes (digest lanes ts) t ∙ sym (digest-append lanes ts (t ∷ []))
+
+-- a digest with the lanes of one more tuple
+pub digest-added : (lanes : Lanes) (ts : List Tuple) (t : Tuple) {old new added : List ℕ} → new ≡ add_lanes old added → added ≡ lanes t → old ≡ digest lanes ts → new ≡ digest lanes (ts ++ t ∷ [])
+digest-added lanes ts t sum is_lanes before = sum ∙ (λ i. add_lanes (before i) (is_lanes i)) ∙ digest-snoc lanes ts t

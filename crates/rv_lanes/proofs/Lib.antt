@@ -1,0 +1,8 @@
+pub mod Cases
+pub mod ChMaj
+pub mod LaneLemmas
+pub mod Laws
+pub mod Numbers
+pub mod ShortMessages
+pub mod MoreTuples
+pub mod Takes

@@ -1,0 +1,2 @@
+pub mod MoreTuples
+pub mod SameSums
