@@ -1,0 +1,12 @@
+//! The pieces of a record, the task that makes them, the book in which they are entered, and the
+//! laws of the board from which workers draw them.
+#![tactic(auto)]
+
+mod book;
+mod entry;
+pub mod laws;
+mod task;
+
+pub use book::Book;
+pub use entry::{Deposited, Entry};
+pub use task::{Piece, Task};

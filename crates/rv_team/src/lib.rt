@@ -1,0 +1,9 @@
+//! Workers that share a task: each draws the index of a piece, makes the piece and deposits it, until
+//! there are no more.
+#![tactic(auto)]
+
+mod alone;
+mod team;
+
+pub use alone::run_one;
+pub use team::run_team;
