@@ -1,5 +1,5 @@
 -- What a book says: the task's pieces, and a journal of those that were entered.
-use Rattle.std.specs.Prelude.{◌≡◌, ℕ, Bool, true, false, cond, not, ◌&&◌, List, [], ◌∷◌, ◌++◌, Option, Some, None, map, fold, replicate, slice_get, ◌==◌}
+use Rattle.std.specs.Prelude.{◌≡◌, ℕ, ◌<◌, Bool, true, false, cond, not, ◌&&◌, List, [], ◌∷◌, ◌++◌, Option, Some, None, map, fold, replicate, slice_get, ◌==◌}
 use Rattle.std.specs.List.{list_any, range_with_len}
 use Rattle.rv_spec.specs.Digest.{add_lanes}
 use Rattle.rv_book.specs.declared.entry.Entry.{Entry}
@@ -13,6 +13,9 @@ entry p i = record { pass = p; index = i }
 -- whether a journal names an index
 abbrev pub is_entered : ℕ → List Entry → Bool
 is_entered i es = list_any (λ e. e.index == i) es
+
+abbrev pub indices : List Entry → List ℕ
+indices es = map (λ e. e.index) es
 
 -- a journal names no index twice
 abbrev pub named_once : List Entry → Bool
@@ -51,6 +54,10 @@ lanes_at f ps i = lanes_of f (slice_get ps i)
 abbrev pub total_of : (Piece → List ℕ) → List Piece → List Entry → List ℕ
 total_of f ps es = fold (λ sum e. add_lanes sum (lanes_at f ps e.index)) zeros es
 
+-- the sum of the digests of a list of pieces
+abbrev pub sum_of : (Piece → List ℕ) → List Piece → List ℕ
+sum_of f ps = fold (λ sum p. add_lanes sum (f p)) zeros ps
+
 abbrev pub read_lanes : Piece → List ℕ
 read_lanes p = p.reads.lanes
 
@@ -61,3 +68,11 @@ write_lanes p = p.writes.lanes
 abbrev pub IsDeposit : BookState → ℕ → ℕ → Deposited → BookState → Type 0
 IsDeposit b p i New c = (is_entered i b.journal ≡ false) × (c ≡ with_entry b p i)
 IsDeposit b p i (There k) c = (is_entered i b.journal ≡ true) × (k ≡ i) × (c ≡ b)
+
+-- The book has each of the first n pieces, entered in rising order, and the sums of all their digests.
+pub record IsWhole (piece : ℕ → Piece) (n : ℕ) (b : BookState) : Type 0 where
+  pub pieces : b.pieces ≡ pieces_of piece n
+  pub order : indices b.journal ≡ range_with_len 0 n
+  pub each : (i : ℕ) → i < n → piece_at b i ≡ Some (piece i)
+  pub reads : total_of read_lanes b.pieces b.journal ≡ sum_of read_lanes (pieces_of piece n)
+  pub writes : total_of write_lanes b.pieces b.journal ≡ sum_of write_lanes (pieces_of piece n)

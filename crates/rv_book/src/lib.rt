@@ -4,7 +4,7 @@
 
 mod book;
 mod entry;
-pub mod laws;
+pub mod machine;
 mod task;
 
 pub use book::Book;

@@ -18,13 +18,14 @@ use Rattle.rv_book.specs.declared.entry.Entry.{Entry}
 use Rattle.rv_book.specs.declared.entry.Deposited.{Deposited}
 use Rattle.rv_book.specs.declared.entry.Deposited.TheVariants.{New, There}
 use Rattle.rv_book.specs.declared.task.Piece.{Piece}
-use Rattle.rv_book.specs.Journal.{BookState, IsDeposit, entry, is_entered, pieces_of, with_entry}
+use Rattle.rv_book.specs.Journal.{BookState, IsDeposit, entry, indices, is_entered, pieces_of, with_entry}
 use Rattle.rv_claim.specs.declared.pass.Pass.{Pass}
 use Rattle.rv_claim.specs.declared.view.Kept.{Kept}
 use Rattle.rv_claim.specs.declared.view.Lists.{Lists}
 use Rattle.rv_claim.specs.declared.view.View.{View}
 use Rattle.rv_claim.specs.Views.{home_view, is_past, with_gathered, kept}
-use Rattle.rv_book.proofs.Entering.{some_not_none, some_inj}
+use Rattle.rv_book.proofs.Laws.{some_not_none, some_inj, enters_new, range-snoc}
+use Rattle.std.proofs.lemmas.List.{map-append}
 use Rattle.rv_claim.proofs.Steps.{Seat}
 use Rattle.rv_claim.specs.Rule.{Ruled}
 use Rattle.rv_claim.specs.Passes.{number_of, drawn_of, deposited_of}
@@ -32,18 +33,10 @@ use Rattle.rv_claim.specs.Making.{own_of}
 use Rattle.rv_claim.specs.Closing.{depositor, entry_by, closing, slot_by}
 use Rattle.rv_claim.proofs.Ending.{closed_slot, each_deposited}
 
--- one more number
-last : (a n j : ℕ) → a + n ≡ j → range_with_len a (n + 1) ≡ range_with_len a n ++ j ∷ []
-last a n j at = ap (range_with_len a) (let e : n + 1 ≡ suc n = omega arith in e) ∙ more a n j at
-  where
-    more : (a n j : ℕ) → a + n ≡ j → range_with_len a (suc n) ≡ range_with_len a n ++ j ∷ []
-    more a zero j at = ap (λ (k : ℕ). k ∷ []) (let e : a ≡ j = omega (arith, at) in e)
-    more a (suc n) j at = ap (λ ks. a ∷ ks) (more (a + 1) n j (omega (arith, at)))
-
 pub closing_more : (ds : List (List ℕ)) (i : ℕ) → closing ds (i + 1) ≡ closing ds i ++ entry_by (depositor i ds 0) i
 closing_more ds i =
     let f : ℕ → List Entry = λ k. entry_by (depositor k ds 0) k in
-    ap (flat_map f) (last 0 i i (omega arith)) ∙ flat_map-append f (range_with_len 0 i) (i ∷ []) ∙ ap (λ es. closing ds i ++ es) (append-nil (f i))
+    ap (flat_map f) (range-snoc 0 i i (omega arith)) ∙ flat_map-append f (range_with_len 0 i) (i ∷ []) ∙ ap (λ es. closing ds i ++ es) (append-nil (f i))
 
 entered_by : (o : Option ℕ) (i j : ℕ) → j ≢ i → is_entered j (entry_by o i) ≡ false
 entered_by None i j n = refl
@@ -58,41 +51,20 @@ not_yet ds (suc i) j le =
     ap (λ k. is_entered j (closing ds k)) e ∙ ap (is_entered j) more ∙ list_any-append (λ (e : Entry). e.index == j) (closing ds i) (entry_by (depositor i ds 0) i)
     ∙ ap (λ b. b || is_entered j (entry_by (depositor i ds 0) i)) (not_yet ds i j (omega (arith, le))) ∙ entered_by (depositor i ds 0) i j (λ q. omega (arith, le, q))
 
--- each deposited number is entered
-pub in_closing : (ds : List (List ℕ)) (n i p : ℕ) → i < n → depositor i ds 0 ≡ Some p → is_entered i (closing ds n) ≡ true
-in_closing ds zero i p lt d = absurd (omega (arith, lt))
-in_closing ds (suc n) i p lt d =
+-- where each number was deposited, each is entered
+pub indices-closing : (ds : List (List ℕ)) (n : ℕ) → ((i : ℕ) → i < n → (p : ℕ) × (depositor i ds 0 ≡ Some p)) → indices (closing ds n) ≡ range_with_len 0 n
+indices-closing ds zero each = refl
+indices-closing ds (suc n) each =
     let e : suc n ≡ n + 1 = omega arith in
-    ap (λ k. is_entered i (closing ds k)) e ∙ ap (is_entered i) (closing_more ds n) ∙ list_any-append (λ (e : Entry). e.index == i) (closing ds n) (entry_by (depositor n ds 0) n)
-    ∙ by (i == n) refl (λ before. in_closing ds n i p before d)
-  where
-    by : (b : Bool) → (i == n) ≡ b → (i < n → is_entered i (closing ds n) ≡ true) → (is_entered i (closing ds n) || is_entered i (entry_by (depositor n ds 0) n)) ≡ true
-    by true same rec =
-        let is : i ≡ n = grind (arith, nat_tests) in
-        let here : is_entered i (entry_by (depositor n ds 0) n) ≡ true =
-        ap (λ k. is_entered i (entry_by (depositor k ds 0) k)) (sym is) ∙ ap (λ o. is_entered i (entry_by o i)) d ∙ or-false (i == i) ∙ (let e : (i == i) ≡ true = grind (arith, nat_tests) in e) in
-        ap (λ b. is_entered i (closing ds n) || b) here ∙ or-true (is_entered i (closing ds n))
-    by false apart rec =
-        let before : i < n = (let far : i ≢ n = grind (arith, nat_tests) in omega (arith, lt, far)) in
-        ap (λ b. b || is_entered i (entry_by (depositor n ds 0) n)) (rec before)
-
-pub deposited_new : (b c : BookState) (p i : ℕ) (r : Deposited) → IsDeposit b p i r c → is_entered i b.journal ≡ false → c ≡ with_entry b p i
-deposited_new b c p i New d new = d.1
-deposited_new b c p i (There k) d new = absurd (true≢false (sym d.0 ∙ new))
-
-pub piece_here : (piece : ℕ → Piece) (n i : ℕ) → i < n → slice_get (pieces_of piece n) i ≡ Some (piece i)
-piece_here piece n i lt = from piece 0 n i i (omega arith) lt
-  where
-    from : (piece : ℕ → Piece) (a n i k : ℕ) → a + i ≡ k → i < n → slice_get (map piece (range_with_len a n)) i ≡ Some (piece k)
-    from piece a zero i k e lt = absurd (omega (arith, lt))
-    from piece a (suc n) zero k e lt = ap (λ j. Some (piece j)) (let q : a ≡ k = omega (arith, e) in q)
-    from piece a (suc n) (suc i) k e lt = from piece (a + 1) n i k (omega (arith, e)) (omega (arith, lt))
+    ap (λ k. indices (closing ds k)) e ∙ ap indices (closing_more ds n) ∙ map-append (λ (f : Entry). f.index) (closing ds n) (entry_by (depositor n ds 0) n)
+    ∙ ap (λ ks. ks ++ indices (entry_by (depositor n ds 0) n)) (indices-closing ds n (λ i lt. each i (omega (arith, lt))))
+    ∙ ap (λ o. range_with_len 0 n ++ indices (entry_by o n)) (each n (omega arith)).1 ∙ sym (range-snoc 0 n n (omega arith)) ∙ ap (range_with_len 0) (sym e)
 
 -- the last state, of a table whose key and seat are known by other names
-pub final_as : {A : Type 0} (f : A → ℕ → Piece) (a b : A) (n m w x id : ℕ) (v u : View) (words : List ℕ) (xs : List (Option Kept)) → a ≡ b → n ≡ m → w ≡ x → id ≡ 0 → v ≡ u
-    → Final (Seen (Ruled (f a) n w) id v) words xs → Final (Seen (Ruled (f b) m x) 0 u) words xs
-final_as {A} f a b n m w x id v u words xs ea en ew ei ev t =
-    subst (λ (z : A × ℕ × ℕ × ℕ × View). Final (Seen (Ruled (f z.0) z.1 z.2) z.3 z.4) words xs) (λ i. (ea i, en i, ew i, ei i, ev i)) t
+pub final_as : (piece : ℕ → Piece) (n m w x id : ℕ) (v u : View) (words : List ℕ) (xs : List (Option Kept)) → n ≡ m → w ≡ x → id ≡ 0 → v ≡ u
+    → Final (Seen (Ruled piece n w) id v) words xs → Final (Seen (Ruled piece m x) 0 u) words xs
+final_as piece n m w x id v u words xs en ew ei ev t =
+    subst (λ (z : ℕ × ℕ × ℕ × View). Final (Seen (Ruled piece z.0 z.1) z.2 z.3) words xs) (λ i. (en i, ew i, ei i, ev i)) t
 
 -- the lists of passes
 at_mapped : {X Y : Type 0} (f : X → Y) (xs : List X) (k : ℕ) (y : Y) → get_elem? (map f xs) k ≡ some y → (x : X) × (get_elem? xs k ≡ some x) × (f x ≡ y)
@@ -142,13 +114,13 @@ module _ (piece : ℕ → Piece) (n w : ℕ) (ps : List Pass) (words : List ℕ)
   pub slot_at : (i : ℕ) → i < n → get_elem? xs i ≡ some (slot_by piece (depositor i (map deposited_of ps) 0) i)
   slot_at i lt = closed_slot piece n w (map own_of ps) words xs (length_own ps ∙ long) (places ps named) f i lt ∙ ap (λ ds. some (slot_by piece (depositor i ds 0) i)) (same_lists ps)
 
-  pub all_at : 0 < w → ((k : ℕ) (d : Pass) → k < length ps → is_past n (drawn_of (slice_index_or ps k d)) ≡ true)
+  pub each_at : 0 < w → ((k : ℕ) (d : Pass) → k < length ps → is_past n (drawn_of (slice_index_or ps k d)) ≡ true)
       → ((k : ℕ) (d : Pass) → k < length ps → (i : ℕ) → i < n → is_in i (drawn_of (slice_index_or ps k d)) ≡ true → is_in i (deposited_of (slice_index_or ps k d)) ≡ true)
-      → (i : ℕ) → i < n → is_entered i (closing (map deposited_of ps) n) ≡ true
-  all_at some_pass past settled i lt =
+      → (i : ℕ) → i < n → (p : ℕ) × (depositor i (map deposited_of ps) 0 ≡ Some p)
+  each_at some_pass past settled i lt =
       let t = each_deposited piece n w (map own_of ps) words xs (length_own ps ∙ long) (places ps named) f some_pass (each_pass (λ l. is_past n l.drawn ≡ true) ps past)
       (each_pass (λ l. (i : ℕ) → i < n → is_in i l.drawn ≡ true → is_in i l.deposited ≡ true) ps settled) i lt in
-      in_closing (map deposited_of ps) n i t.0 lt (ap (λ ds. depositor i ds 0) (sym (same_lists ps)) ∙ t.1)
+      (t.0, ap (λ ds. depositor i ds 0) (sym (same_lists ps)) ∙ t.1)
 
 -- what was taken from a slot
 pub taken_piece : (piece : ℕ → Piece) (o : Option ℕ) (i : ℕ) (k : Kept) (x : Option Kept) → x ≡ Some k → x ≡ slot_by piece o i → (p : ℕ) × (o ≡ Some p) × (k ≡ kept p (piece i))
@@ -175,7 +147,7 @@ pub book_more : (piece : ℕ → Piece) (n : ℕ) (ds : List (List ℕ)) (i p q 
     → IsDeposit b q j r c → q ≡ p → j ≡ i → depositor i ds 0 ≡ Some p → c ≡ record { pieces = pieces_of piece n; journal = closing ds (i + 1) }
 book_more piece n ds i p q j b c r eb d eq ej ed =
     let new : is_entered j b.journal ≡ false = ap (λ (s : BookState). is_entered j s.journal) eb ∙ ap (λ k. is_entered k (closing ds i)) ej ∙ not_yet ds i i (omega arith) in
-    deposited_new b c q j r d new ∙ ap (λ (s : BookState). with_entry s q j) eb
+    enters_new b c q j r d new ∙ ap (λ (s : BookState). with_entry s q j) eb
     ∙ ap (λ (z : ℕ × ℕ). let s : BookState = record { pieces = pieces_of piece n; journal = closing ds i ++ entry z.0 z.1 ∷ [] } in s) (λ k. (eq k, ej k))
     ∙ ap (λ es. let s : BookState = record { pieces = pieces_of piece n; journal = es } in s) (sym (closing_more ds i ∙ ap (λ o. closing ds i ++ entry_by o i) ed))
 

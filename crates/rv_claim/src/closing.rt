@@ -1,17 +1,20 @@
 //! How a board ends.
 
 ghost use Rattle.std.specs.Prelude.{◌≡◌, ◌≤◌, ◌<◌, ◌+◌, ℕ, [], ◌∷◌, ◌++◌, Some, map, length, slice_index_or, IfOk};
-ghost use Rattle.rv_book.specs.Journal.{pieces_of, piece_at};
+ghost use Rattle.std.specs.Slots.{slots_items, slots_len, IsFull};
+ghost use mathlib.Core.Option.{some};
+ghost use lib.ListN.{get_elem?};
+ghost use Rattle.rv_book.specs.Journal.{pieces_of, IsWhole};
 ghost use Rattle.rv_claim.specs.Views.{home_view};
 ghost use Rattle.rv_claim.specs.Passes.{deposited_of, shards_of, task_of, workers_of};
-ghost use Rattle.rv_claim.specs.Closing.{AreAll, AreSettled, ArePast, closing};
+ghost use Rattle.rv_claim.specs.Closing.{AreAll, AreSettled, ArePast, closing, depositor, slot_by};
 ghost use Rattle.rv_claim.specs.Making.{AreMade, own_of};
 
 use crate::board::Board;
 use crate::pass::Pass;
 use crate::rules::{About, Gathers, Rules};
 use crate::view::{Kept, View};
-use atomic_table::{Seat, Table};
+use atomic_table::{Closed, Seat, Table};
 use rv_base::NoMemory;
 use rv_book::{Book, Task};
 use std::alloc::Global;
@@ -33,22 +36,12 @@ impl<T: Task> Board<T> {
         requires settled { AreSettled self passes.items }
         ensures pieces { IfOk result (λ b. b.pieces ≡ pieces_of (T.piece task.now) (shards_of self)) }
         ensures journal { IfOk result (λ b. b.journal ≡ closing (map deposited_of passes.items) (shards_of self)) }
-        ensures all { IfOk result (λ b. ArePast self passes.items
-            → (i : ℕ) → i < shards_of self → piece_at b i ≡ Some (T.piece task.now i)) }
+        ensures whole { IfOk result (λ b. ArePast self passes.items → IsWhole (T.piece task.now) (shards_of self) b) }
     {
-        let Board {
-            shards,
-            workers,
-            table,
-        } = self;
-        let mut passes = passes;
-        // No growth may fail once the table is closed, since what it keeps is not dropped by itself.
+        let shards = self.shards;
+        // Once the table is closed nothing may fail, since the slots are not dropped by themselves.
         let mut book = Book::open(alloc, task, shards)?;
-        let Pass { seat, home, .. } = passes.remove(0);
-        let mut home = home.into_seat();
-        table.shared.join_seat::<Gathers>(&mut home, seat);
-        gather_passes(&table, &mut home, passes, workers);
-        let mut closed = table.close_with(home);
+        let mut closed = end_table(self, passes);
         for i in 0..shards {
             if let Some(Kept { pass, piece }) = closed.take(i as usize) {
                 book.deposit(pass, piece);
@@ -57,6 +50,24 @@ impl<T: Task> Board<T> {
         closed.free();
         Ok(book)
     }
+}
+
+// Home gathers all passes, and ends the table. Each slot then keeps what was deposited.
+fn end_table<T: Task>(board: Board<T>, mut passes: Vec<Pass>) -> Closed<Option<Kept>, Global>
+    requires passes { AreAll board passes.items }
+    ensures long { slots_len result.slots ≡ shards_of board }
+    ensures full { IsFull result.slots }
+    ensures slots { (i : ℕ) → i < shards_of board → get_elem? (slots_items result.slots) i
+        ≡ some (slot_by (T.piece (task_of board)) (depositor i (map deposited_of passes.items) 0) i) }
+    ensures each { ArePast board passes.items → AreSettled board passes.items
+        → (i : ℕ) → i < shards_of board → (p : ℕ) × (depositor i (map deposited_of passes.items) 0 ≡ Some p) }
+{
+    let Board { workers, table, .. } = board;
+    let Pass { seat, home, .. } = passes.remove(0);
+    let mut home = home.into_seat();
+    table.shared.join_seat::<Gathers>(&mut home, seat);
+    gather_passes(&table, &mut home, passes, workers);
+    table.close_with(home)
 }
 
 // Home gathers all passes but the first, which it has gathered.

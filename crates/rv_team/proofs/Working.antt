@@ -1,4 +1,4 @@
--- What workers do, over plain lists.
+-- What workers give back, over plain lists.
 use Rattle.std.proofs.Common.{◌≡◌, ◌≢◌, ℕ, zero, suc, ◌+◌, ◌<◌, ◌≤◌, ◌⊎◌, Bool, true, false, cond, ◌||◌, List, [], ◌∷◌, ◌++◌, length, sym, refl, ap, ◌∙◌, subst, ⊎_elim, arith}
 use Rattle.std.specs.Prelude.{Option, Some, None, slice_index_or, ◌==◌}
 use Rattle.std.specs.List.{range_with_len}
@@ -10,17 +10,6 @@ use Rattle.std.proofs.Common.{length-append}
 use Rattle.rv_claim.specs.Closing.{depositor, is_settled}
 use Rattle.rv_claim.specs.declared.pass.Pass.{Pass}
 use Rattle.rv_team.specs.Work.{IsDone, AreDone}
-
-in_from : (a n i : ℕ) → a ≤ i → i < a + n → is_in i (range_with_len a n) ≡ true
-in_from a zero i le lt = absurd (omega (arith, le, lt))
-in_from a (suc n) i le lt = by (a == i) refl (λ apart. in_from (a + 1) n i (omega (arith, le, apart)) (omega (arith, lt)))
-  where
-    by : (b : Bool) → (a == i) ≡ b → (a ≢ i → is_in i (range_with_len (a + 1) n) ≡ true) → (b || is_in i (range_with_len (a + 1) n)) ≡ true
-    by true e rest = refl
-    by false e rest = rest (grind (arith, nat_tests))
-
-pub alone_by : (n i : ℕ) → i < n → depositor i (range_with_len 0 n ∷ []) 0 ≡ Some 0
-alone_by n i lt = ap (λ (b : Bool). let o : Option ℕ = cond b (Some 0) None in o) (in_from 0 n i (omega arith) (omega (arith, lt)))
 
 pub in_last : (i : ℕ) (xs : List ℕ) → is_in i (xs ++ i ∷ []) ≡ true
 in_last i xs = list_any-append (λ x. x == i) xs (i ∷ []) ∙ ap (λ b. is_in i xs || (b || false)) (let e : (i == i) ≡ true = grind (arith, nat_tests) in e) ∙ or-true (is_in i xs)

@@ -2,8 +2,8 @@
 
 ghost use Rattle.std.specs.Prelude.{◌≡◌, ◌≤◌, IfOk};
 ghost use Rattle.std.specs.Thread.{IsSync};
+ghost use Rattle.rv_book.specs.Journal.{IsWhole};
 ghost use Rattle.rv_claim.specs.Passes.{shards_of, task_of};
-ghost use Rattle.rv_team.specs.Whole.{IsWhole};
 ghost use Rattle.rv_team.specs.Work.{AreDone, AreFresh, IsDone, IsFresh};
 
 use rv_base::NoMemory;
