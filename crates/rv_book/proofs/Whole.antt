@@ -9,7 +9,7 @@ use Rattle.rv_book.specs.declared.entry.Entry.{Entry}
 use Rattle.rv_book.specs.declared.entry.Deposited.{Deposited}
 use Rattle.rv_book.specs.declared.entry.Deposited.TheVariants.{New, There}
 use Rattle.rv_book.specs.declared.task.Piece.{Piece}
-use Rattle.rv_book.specs.Journal.{BookState, IsDeposit, IsWhole, with_entry, indices, is_entered, pieces_of, piece_at, lanes_at, lanes_of, total_of, sum_of, zeros, read_lanes, write_lanes}
+use Rattle.rv_book.specs.Journal.{BookState, IsDeposit, IsWhole, with_entry, indices, is_entered, pieces_of, lanes_at, lanes_of, total_of, sum_of, zeros, read_lanes, write_lanes}
 
 -- the first n pieces have that of each index below n
 pub piece_below : (piece : ℕ → Piece) (n i : ℕ) → i < n → slice_get (pieces_of piece n) i ≡ Some (piece i)

@@ -6,6 +6,8 @@ mod book;
 mod entry;
 pub mod machine;
 mod task;
+#[cfg(test)]
+mod tests;
 
 pub use book::Book;
 pub use entry::{Deposited, Entry};

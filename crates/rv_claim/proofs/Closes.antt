@@ -1,12 +1,11 @@
 -- How a book is made of the last state of a table.
 use Rattle.std.proofs.Common.{◌≡◌, ◌≢◌, ℕ, zero, suc, ◌+◌, ◌<◌, ◌≤◌, Bool, true, false, ◌||◌, List, [], ◌∷◌, ◌++◌, length, get_or, set, map, sym, refl, ap, ◌∙◌, subst, arith}
-use Rattle.std.specs.Prelude.{Option, Some, None, slice_get, slice_index_or, ◌==◌}
+use Rattle.std.specs.Prelude.{Option, Some, None, slice_index_or, ◌==◌}
 use Rattle.std.specs.List.{flat_map, range_with_len, remove}
 use Rattle.std.proofs.Common.{get_or-set_same}
 use Rattle.std.proofs.lemmas.List.{get_or-set_other}
-use Rattle.std.proofs.lemmas.Bool.{true≢false}
 use Rattle.std.proofs.lemmas.Bool.Decides.{nat_tests}
-use Rattle.std.proofs.Math.Bool.{or-false, or-true}
+use Rattle.std.proofs.Math.Bool.{or-false}
 use Rattle.std.proofs.lemmas.Grind.{flat_map-append}
 use Rattle.std.proofs.lemmas.List.Folds.{list_any-append}
 use mathlib.Core.Option.{some, some-injective, some-ne-none}
@@ -16,7 +15,6 @@ use Rattle.atomic_table.specs.Table.{Final, Seen}
 use Rattle.rv_spec.specs.Board.{is_in}
 use Rattle.rv_book.specs.declared.entry.Entry.{Entry}
 use Rattle.rv_book.specs.declared.entry.Deposited.{Deposited}
-use Rattle.rv_book.specs.declared.entry.Deposited.TheVariants.{New, There}
 use Rattle.rv_book.specs.declared.task.Piece.{Piece}
 use Rattle.rv_book.specs.Journal.{BookState, IsDeposit, entry, indices, is_entered, pieces_of, with_entry}
 use Rattle.rv_claim.specs.declared.pass.Pass.{Pass}

@@ -9,6 +9,8 @@ mod depositing;
 mod opening;
 mod pass;
 mod rules;
+#[cfg(test)]
+mod tests;
 mod view;
 
 pub use board::Board;

@@ -4,6 +4,8 @@
 
 mod alone;
 mod team;
+#[cfg(test)]
+mod tests;
 
 pub use alone::run_one;
 pub use team::run_team;

@@ -1,11 +1,10 @@
-use Rattle.std.proofs.Common.{◌≡◌, ◌<◌, ℕ, List, map, false, length, sym, ap, ◌∙◌, subst, arith}
-use Rattle.std.specs.Prelude.{Some, None, slice_get, slice_index_or}
+use Rattle.std.proofs.Common.{◌≡◌, ◌<◌, ℕ, List, map, false, sym, ap, ◌∙◌, arith}
+use Rattle.std.specs.Prelude.{Some, slice_get, slice_index_or}
 use mathlib.Core.Option.{some, some-injective}
 use lib.ListN.{get_elem?}
 use Rattle.rv_book.specs.declared.task.Piece.{Piece}
 use Rattle.rv_book.specs.Journal.{BookState, pieces_of, indices}
 use Rattle.rv_book.proofs.Laws.{piece_below, whole}
-use Rattle.rv_claim.specs.declared.pass.Pass.{Pass}
 use Rattle.rv_claim.specs.declared.view.Kept.{Kept}
 use Rattle.rv_claim.specs.Passes.{deposited_of}
 use Rattle.rv_claim.specs.Closing.{depositor, slot_by, closing}
