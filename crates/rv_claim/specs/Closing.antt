@@ -1,0 +1,45 @@
+-- What a closed board's book says.
+use Rattle.std.specs.Prelude.{◌≡◌, ℕ, ◌+◌, ◌<◌, true, cond, List, [], ◌∷◌, Option, Some, None, length, slice_index_or}
+use Rattle.std.specs.List.{flat_map, range_with_len}
+use Rattle.rv_spec.specs.Board.{is_in}
+use Rattle.rv_book.specs.declared.entry.Entry.{Entry}
+use Rattle.rv_book.specs.declared.task.Piece.{Piece}
+use Rattle.rv_book.specs.Journal.{entry}
+use Rattle.rv_claim.specs.declared.board.Board.{Board}
+use Rattle.rv_claim.specs.declared.pass.Pass.{Pass}
+use Rattle.rv_claim.specs.declared.view.Kept.{Kept}
+use Rattle.rv_claim.specs.Views.{kept, is_past}
+use Rattle.rv_claim.specs.Passes.{number_of, drawn_of, deposited_of, shards_of, workers_of, IsOf}
+
+-- the pass that deposited i, of passes from number p on
+abbrev pub depositor : ℕ → List (List ℕ) → ℕ → Option ℕ
+depositor i [] p = None
+depositor i (d ∷ ds) p = cond (is_in i d) (Some p) (depositor i ds (p + 1))
+
+abbrev pub entry_by : Option ℕ → ℕ → List Entry
+entry_by None i = []
+entry_by (Some p) i = entry p i ∷ []
+
+-- who deposited which of the first n numbers, in rising order, by the lists that the passes deposited
+abbrev pub closing : List (List ℕ) → ℕ → List Entry
+closing ds n = flat_map (λ i. entry_by (depositor i ds 0) i) (range_with_len 0 n)
+
+abbrev pub slot_by : (ℕ → Piece) → Option ℕ → ℕ → Option Kept
+slot_by piece None i = None
+slot_by piece (Some p) i = Some (kept p (piece i))
+
+-- what a pass drew below n is deposited
+abbrev pub is_settled : ℕ → List ℕ → List ℕ → Type 0
+is_settled n drawn deposited = (i : ℕ) → i < n → is_in i drawn ≡ true → is_in i deposited ≡ true
+
+module _ {T : Type 0} where
+  -- these are all the board's passes, in order of number
+  abbrev pub AreAll : Board T → List Pass → Type 0
+  AreAll b ps = (length ps ≡ workers_of b) × ((k : ℕ) (d : Pass) → k < length ps → IsOf b (slice_index_or ps k d) × (number_of (slice_index_or ps k d) ≡ k))
+
+  abbrev pub AreSettled : Board T → List Pass → Type 0
+  AreSettled b ps = (k : ℕ) (d : Pass) → k < length ps → is_settled (shards_of b) (drawn_of (slice_index_or ps k d)) (deposited_of (slice_index_or ps k d))
+
+  -- each pass drew a number that is not below the number of shards
+  abbrev pub ArePast : Board T → List Pass → Type 0
+  ArePast b ps = (k : ℕ) (d : Pass) → k < length ps → is_past (shards_of b) (drawn_of (slice_index_or ps k d)) ≡ true
