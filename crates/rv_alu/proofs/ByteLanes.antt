@@ -3,7 +3,7 @@ use Rattle.std.proofs.Common.{◌≡◌, ℕ, zero, suc, ◌+◌, ◌*◌, ◌^�
 use native.Mathlib.Numerals.{unary_clauses}
 use Rattle.std.proofs.lemmas.Nat.{pow-add, from_le_bytes-to_le_bytes_4}
 use Rattle.rv_base.specs.declared.instr.StoreKind.TheVariants as stores
-use Rattle.rv_spec.specs.Expected.{merge, splice}
+use Rattle.rv_rules.specs.Expected.{merge, splice}
 
 pub lane-power : (k : ℕ) → 2 ^ (8 * k) ≡ 256 ^ k
 lane-power zero = refl

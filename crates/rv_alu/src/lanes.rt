@@ -2,7 +2,7 @@
 
 ghost use Rattle.std.specs.Prelude.{◌≡◌, ◌+◌, ◌/◌, ◌%◌, ◌^◌, ◌<◌, ◌≤◌};
 ghost use Rattle.std.specs.Int.{w32, cast_unsigned};
-ghost use Rattle.rv_spec.specs.Expected as isa;
+ghost use Rattle.rv_rules.specs.Expected as isa;
 ghost use Rattle.rv_spec.specs.Step.{load_width, store_width};
 ghost use Rattle.rv_spec.specs.Words.{sign_extend};
 
@@ -10,7 +10,7 @@ use rv_base::{LoadKind, StoreKind};
 
 /// The word that a load gives rd, of a word of memory in which the loaded bytes begin
 /// at byte `lane` ("Load and Store Instructions").
-#[tactic(auto, unfolding(rv_spec::specs::Expected::extract))]
+#[tactic(auto, unfolding(rv_rules::specs::Expected::extract))]
 pub fn extract(kind: LoadKind, word: u32, lane: u32) -> u32
     requires { lane + load_width kind ≤ 4 }
     ensures { result ≡ isa.extract kind word lane }
@@ -64,7 +64,7 @@ fn sign_extended_half(half: u16) -> u32
     (half.cast_signed() as i32).cast_unsigned()
 }
 
-#[tactic(auto, unfolding(rv_spec::specs::Expected::splice))]
+#[tactic(auto, unfolding(rv_rules::specs::Expected::splice))]
 fn with_byte(word: u32, lane: u32, value: u32) -> u32
     requires { lane < 4 }
     ensures { result ≡ isa.merge StoreKind.B word lane value }
@@ -79,7 +79,7 @@ fn with_byte(word: u32, lane: u32, value: u32) -> u32
     })
 }
 
-#[tactic(auto, unfolding(rv_spec::specs::Expected::splice))]
+#[tactic(auto, unfolding(rv_rules::specs::Expected::splice))]
 fn with_half(word: u32, lane: u32, value: u32) -> u32
     requires { lane < 3 }
     ensures { result ≡ isa.merge StoreKind.H word lane value }

@@ -1,5 +1,6 @@
 -- Numbers in a file, the least significant byte first, and the times of accesses.
 use Rattle.std.specs.Prelude.{◌≡◌, ℕ, ◌+◌, ◌*◌, ◌<◌, ◌≤◌, ◌⊎◌, List, ◌++◌, length, take, drop, slice_index}
+use Rattle.rv_base.specs.declared.cells.TheConstants.{TIMES_PER_STEP}
 use Rattle.std.specs.Int.{Width, w16, w32, w64, byte_len, from_le_bytes, to_le_bytes}
 
 -- the number of a width that lies at a place
@@ -28,4 +29,4 @@ pub record SetsNumber (w : Width) (at v : ℕ) (old new : List ℕ) : Type 0 whe
 
 -- the time of a slot of a step
 abbrev pub time_of : ℕ → ℕ → ℕ
-time_of step slot = 16 * step + slot
+time_of step slot = TIMES_PER_STEP * step + slot

@@ -4,6 +4,8 @@ ghost use Rattle.std.specs.Prelude.{◌≡◌, ◌+◌, ◌*◌, ◌^◌, ◌<�
 ghost use Rattle.std.specs.Int.{w16, w32, w64};
 ghost use Rattle.rv_base.specs.LittleEndian.{u16_at, u32_at, u64_at, SetsNumber, time_of as time_is};
 
+use crate::cells::TIMES_PER_STEP;
+
 /// The number of two bytes at a place, the least significant first.
 pub fn get16(bytes: &[u8], at: usize) -> u16
     requires { at + 2 ≤ length bytes.now }
@@ -66,5 +68,5 @@ pub fn time_of(step: u64, slot: u8) -> u64
     requires { step < 2 ^ 32 }
     ensures { result ≡ time_is step slot }
 {
-    16 * step + slot as u64
+    TIMES_PER_STEP * step + slot as u64
 }

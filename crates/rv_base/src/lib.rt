@@ -1,10 +1,15 @@
-//! Plain data that every crate shares, and numbers in a file.
+//! Plain data that every crate shares, numbers in a file, and the named constants of the record and the machine.
 #![tactic(auto)]
 
 mod bytes;
+pub mod cells;
 mod fields;
 mod instr;
+pub mod layout;
+pub mod limits;
+pub mod machine;
 mod record;
+pub mod rules;
 #[cfg(test)]
 mod tests;
 

@@ -1,5 +1,9 @@
 //! What a record file holds, as plain data.
 
+ghost use Rattle.std.specs.Prelude.{◌≡◌};
+
+use std::alloc::{AllocError, AllocFailed};
+
 /// A value that a cell had at a time: what offline memory checking (Blum et al. 1991) counts.
 ///
 /// A cell below 2^30 is that word of memory, 2^30 + r is register r (1 to 31), and 2^30 + 32 is the reservation of LR.W.
@@ -75,9 +79,34 @@ pub struct Refusal {
     pub rule: u8,
 }
 
+impl Refusal {
+    /// The refusal by a rule, at a shard and a row.
+    pub fn at(shard: u32, row: u32, rule: u8) -> Refusal
+        ensures { result ≡ record { shard = shard; row = row; rule = rule } }
+    {
+        Refusal { shard, row, rule }
+    }
+}
+
 /// Want of memory.
 #[derive(Clone, Copy, PartialEq, Eq, Debug)]
 pub struct NoMemory;
+
+impl From<AllocError> for NoMemory {
+    ghost from_gives = { λ _ e. e ≡ record {} };
+
+    fn from(_e: AllocError) -> NoMemory {
+        NoMemory
+    }
+}
+
+impl<T: Drop> From<AllocFailed<T>> for NoMemory {
+    ghost from_gives = { λ _ e. e ≡ record {} };
+
+    fn from(_e: AllocFailed<T>) -> NoMemory {
+        NoMemory
+    }
+}
 
 /// What a checker answers on a record file: the steps and shards of an accepted one and how its run ended, or the first broken check.
 #[derive(Clone, Copy, PartialEq, Eq, Debug)]

@@ -6,8 +6,8 @@ use Rattle.std.proofs.lemmas.Bool.{true≢false}
 use Rattle.std.proofs.lemmas.Bool.Decides.{nat_tests}
 use Rattle.std.proofs.lemmas.List.Sums.{sum_by-cons, sum_by_push}
 use Rattle.std.proofs.lemmas.List.Folds.{list_any-append}
-use Rattle.rv_spec.specs.Board.{Board, BoardEvent, initial_board, permitted, board_after, Leads, Reaches, draw, drawn_by, is_in, is_journaled, is_done, pass_done}
-use Rattle.rv_spec.specs.Board.BoardEvent.{claim, deposit}
+use Rattle.rv_book.specs.Board.{Board, BoardEvent, initial_board, permitted, board_after, Leads, Reaches, draw, drawn_by, is_in, is_journaled, is_done, pass_done}
+use Rattle.rv_book.specs.Board.BoardEvent.{claim, deposit}
 use Rattle.rv_book.specs.BoardLaws.{one, times, drawn_times, entered_times, EachDrawnOnce, EnteredAtMostOnce, NextIsBounded, EachWasDrawn, DoneNamesAll}
 
 -- what the opening has and each event keeps holds at the end

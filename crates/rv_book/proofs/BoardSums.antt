@@ -8,8 +8,8 @@ use Rattle.std.proofs.lemmas.List.Sums.{sum_by-cons, sum_by_push}
 use Rattle.std.proofs.lemmas.List.Folds.{list_any-append}
 use mathlib.Core.Logic.{dite}
 use native.Mathlib.Decide.{ℕ_discrete}
-use Rattle.rv_spec.specs.Board.{Board, BoardEvent, initial_board, permitted, board_after, drawn_by, is_in, is_journaled}
-use Rattle.rv_spec.specs.Board.BoardEvent.{claim, deposit}
+use Rattle.rv_book.specs.Board.{Board, BoardEvent, initial_board, permitted, board_after, drawn_by, is_in, is_journaled}
+use Rattle.rv_book.specs.Board.BoardEvent.{claim, deposit}
 use Rattle.rv_book.specs.BoardLaws.{EachAddedOnce, DoneAddsAll}
 use Rattle.rv_book.proofs.BoardLaws.{kept, and_true, not_true, all_journaled}
 

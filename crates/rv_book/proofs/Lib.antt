@@ -1,5 +1,5 @@
+pub mod Lemmas
 pub mod Entering
 pub mod Whole
 pub mod BoardLaws
 pub mod BoardSums
-pub mod Laws

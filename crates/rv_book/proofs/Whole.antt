@@ -4,7 +4,7 @@ use Rattle.std.specs.Prelude.{Option, Some, None, fold, slice_get, ◌==◌}
 use Rattle.std.specs.List.{list_any, range_with_len}
 use Rattle.std.proofs.lemmas.Bool.{true≢false}
 use Rattle.std.proofs.lemmas.Bool.Decides.{nat_tests}
-use Rattle.rv_spec.specs.Digest.{add_lanes}
+use Rattle.rv_rules.specs.Sums.{add_lanes}
 use Rattle.rv_book.specs.declared.entry.Entry.{Entry}
 use Rattle.rv_book.specs.declared.entry.Deposited.{Deposited}
 use Rattle.rv_book.specs.declared.entry.Deposited.TheVariants.{New, There}

@@ -1,7 +1,7 @@
 -- What a book says: the task's pieces, and a journal of those that were entered.
 use Rattle.std.specs.Prelude.{◌≡◌, ℕ, ◌<◌, Bool, true, false, cond, not, ◌&&◌, List, [], ◌∷◌, ◌++◌, Option, Some, None, map, fold, replicate, slice_get, ◌==◌}
 use Rattle.std.specs.List.{list_any, range_with_len}
-use Rattle.rv_spec.specs.Digest.{add_lanes}
+use Rattle.rv_rules.specs.Sums.{add_lanes}
 use Rattle.rv_book.specs.declared.entry.Entry.{Entry}
 use Rattle.rv_book.specs.declared.entry.Deposited.{Deposited}
 use Rattle.rv_book.specs.declared.entry.Deposited.TheVariants.{New, There}

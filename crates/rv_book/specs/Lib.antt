@@ -1,3 +1,4 @@
+pub mod Board
 pub mod Journal
 pub mod Book
 pub mod BoardLaws

@@ -12,7 +12,7 @@ use mathlib.Core.Option.{some, some-injective, some-ne-none}
 use mathlib.Core.List.{append-nil}
 use lib.ListN.{get_elem?}
 use Rattle.atomic_table.specs.Table.{Final, Seen}
-use Rattle.rv_spec.specs.Board.{is_in}
+use Rattle.rv_book.specs.Board.{is_in}
 use Rattle.rv_book.specs.declared.entry.Entry.{Entry}
 use Rattle.rv_book.specs.declared.entry.Deposited.{Deposited}
 use Rattle.rv_book.specs.declared.task.Piece.{Piece}
@@ -22,7 +22,7 @@ use Rattle.rv_claim.specs.declared.view.Kept.{Kept}
 use Rattle.rv_claim.specs.declared.view.Lists.{Lists}
 use Rattle.rv_claim.specs.declared.view.View.{View}
 use Rattle.rv_claim.specs.Views.{home_view, is_past, with_gathered, kept}
-use Rattle.rv_book.proofs.Laws.{some_not_none, some_inj, enters_new, range-snoc}
+use Rattle.rv_book.proofs.Lemmas.{some_not_none, some_inj, enters_new, range-snoc}
 use Rattle.std.proofs.lemmas.List.{map-append}
 use Rattle.rv_claim.proofs.Steps.{Seat}
 use Rattle.rv_claim.specs.Rule.{Ruled}

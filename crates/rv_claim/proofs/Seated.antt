@@ -8,7 +8,7 @@ use Rattle.rv_claim.specs.declared.view.Lists.{Lists}
 use Rattle.rv_claim.specs.declared.view.View.{View}
 use Rattle.rv_claim.specs.Views.{kept, pass_view, draws, opens, fills, with_own, with_one_more, with_gathered, fresh, home_view, home_views, spent_view, is_past, drew, put}
 use Rattle.rv_book.specs.BoardLaws.{one, times}
-use Rattle.rv_spec.specs.Board.{is_in}
+use Rattle.rv_book.specs.Board.{is_in}
 use Rattle.std.proofs.lemmas.List.Sums.{sum_by-cons}
 use Rattle.rv_claim.specs.Rule.{Ruled}
 use Rattle.rv_claim.proofs.Steps.{Seat, claims, opens_slot, fills_slot, splits, joins, none_else}

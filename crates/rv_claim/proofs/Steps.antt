@@ -13,7 +13,7 @@ use Rattle.atomic_table.specs.Table.{State, Me, keeps, takes, gives, Allows, Spl
 use Rattle.atomic_table.proofs.Lists.{at_set, at_longer, at_snoc, set_here, set_else}
 use Rattle.rv_book.specs.declared.task.Piece.{Piece}
 use Rattle.std.proofs.lemmas.List.Sums.{sum_by_push, sum_by-cons}
-use Rattle.rv_spec.specs.Board.{is_in}
+use Rattle.rv_book.specs.Board.{is_in}
 use Rattle.rv_claim.specs.declared.view.Kept.{Kept}
 use Rattle.rv_claim.specs.declared.view.Lists.{Lists}
 use Rattle.rv_claim.specs.declared.view.View.{View}

@@ -1,7 +1,7 @@
 -- What a closed board's book says.
 use Rattle.std.specs.Prelude.{◌≡◌, ℕ, ◌+◌, ◌<◌, true, cond, List, [], ◌∷◌, Option, Some, None, length, slice_index_or}
 use Rattle.std.specs.List.{flat_map, range_with_len}
-use Rattle.rv_spec.specs.Board.{is_in}
+use Rattle.rv_book.specs.Board.{is_in}
 use Rattle.rv_book.specs.declared.entry.Entry.{Entry}
 use Rattle.rv_book.specs.declared.task.Piece.{Piece}
 use Rattle.rv_book.specs.Journal.{entry}

@@ -1,7 +1,7 @@
 //! How a pass draws a number.
 
 ghost use Rattle.std.specs.Prelude.{◌≡◌, ◌↔◌, ◌⊎◌, ◌+◌, ◌≤◌, ◌<◌, ◌++◌, ℕ, true, false, [], ◌∷◌, IfSome, IfNone, IsNone};
-ghost use Rattle.rv_spec.specs.Board.{is_in};
+ghost use Rattle.rv_book.specs.Board.{is_in};
 ghost use Rattle.rv_claim.specs.Views.{is_past};
 ghost use Rattle.rv_claim.specs.Passes.{IsOf, IsSame, drawn_of, deposited_of, shards_of};
 

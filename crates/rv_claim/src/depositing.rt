@@ -1,7 +1,7 @@
 //! How a pass deposits a piece.
 
 ghost use Rattle.std.specs.Prelude.{◌≡◌, ◌<◌, ◌++◌, true, false, [], ◌∷◌};
-ghost use Rattle.rv_spec.specs.Board.{is_in};
+ghost use Rattle.rv_book.specs.Board.{is_in};
 ghost use Rattle.rv_claim.specs.Passes.{IsOf, IsSame, drawn_of, deposited_of, shards_of, task_of};
 
 use crate::board::Board;

@@ -1,7 +1,7 @@
 //! The rule of the board's table, and what each kind of step tells. No value of these types is made.
 
 ghost use Rattle.std.specs.Prelude.{◌≡◌, ◌-◌, ◌+◌, false, None, Some, [], ◌∷◌};
-ghost use Rattle.rv_spec.specs.Board.{is_in};
+ghost use Rattle.rv_book.specs.Board.{is_in};
 ghost use Rattle.rv_claim.specs.Views.{draws, opens, fills, with_own, with_one_more, with_gathered, fresh, pass_view, home_view, spent_view};
 
 use crate::view::{Kept, View};

@@ -2,7 +2,8 @@
 
 ghost use Rattle.std.specs.Prelude.{◌≡◌, ℕ, ◌∷◌, List};
 ghost use Rattle.rv_base.specs.declared.record.Tuple.{Tuple};
-ghost use Rattle.rv_spec.specs.Digest.{digest, sha_lanes, tiny_lanes, tuple_bytes};
+ghost use Rattle.rv_spec.specs.Digest.{digest, sha_lanes, tuple_bytes};
+ghost use Rattle.rv_rules.specs.Sums.{tiny_lanes};
 
 use crate::words::words;
 use rv_base::Tuple;

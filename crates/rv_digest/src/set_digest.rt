@@ -2,9 +2,10 @@
 
 ghost use Rattle.std.specs.Prelude.{◌≡◌, ◌↔◌, IsTrue, ◌∷◌, ◌++◌, List, [], replicate};
 ghost use Rattle.rv_base.specs.declared.record.Tuple.{Tuple};
-ghost use Rattle.rv_spec.specs.Digest.{Lanes as LanesOf, add_lanes, digest, digest_bytes};
+ghost use Rattle.rv_spec.specs.Digest.{Lanes as LanesOf, digest, set_digest_bytes};
+ghost use Rattle.rv_rules.specs.Sums.{add_lanes};
 ghost use Rattle.rv_spec.specs.Multiset.{Same};
-ghost use Rattle.rv_spec.specs.Reading.{digest_of};
+ghost use Rattle.rv_rules.specs.Reading.{digest_of};
 
 use crate::lanes::Lanes;
 use crate::words::{bytes_of, words};
@@ -67,7 +68,7 @@ impl SetDigest {
 
     /// The lanes in order, each as 8 bytes, the least significant byte first.
     pub fn to_bytes(&self) -> [u8; 128]
-        ensures bytes { result ≡ digest_bytes self.now.lanes }
+        ensures bytes { result ≡ set_digest_bytes self.now.lanes }
         ensures inverse { digest_of result ≡ self.now.lanes }
     {
         bytes_of(&self.lanes)
@@ -76,7 +77,7 @@ impl SetDigest {
     /// The digest whose bytes these are.
     pub fn from_bytes(bytes: &[u8; 128]) -> SetDigest
         ensures lanes { result.lanes ≡ digest_of bytes.now }
-        ensures inverse { digest_bytes result.lanes ≡ bytes.now }
+        ensures inverse { set_digest_bytes result.lanes ≡ bytes.now }
     {
         SetDigest {
             lanes: words(bytes),

@@ -3,8 +3,8 @@
 ghost use Rattle.std.specs.Prelude.{◌≡◌, ◌*◌, ◌≤◌, length, map};
 ghost use Rattle.std.specs.List.{range_with_len};
 ghost use Rattle.rv_base.specs.LittleEndian.{u64_at};
-ghost use Rattle.rv_spec.specs.Digest.{digest_bytes};
-ghost use Rattle.rv_spec.specs.Reading.{digest_of};
+ghost use Rattle.rv_spec.specs.Digest.{set_digest_bytes};
+ghost use Rattle.rv_rules.specs.Reading.{digest_of};
 
 use rv_base::{get64, set64};
 
@@ -22,7 +22,7 @@ pub(crate) fn words<const N: usize>(bytes: &[u8]) -> [u64; N]
 
 // The bytes of sixteen numbers.
 pub(crate) fn bytes_of(words: &[u64; 16]) -> [u8; 128]
-    ensures bytes { result ≡ digest_bytes words.now }
+    ensures bytes { result ≡ set_digest_bytes words.now }
     ensures inverse { digest_of result ≡ words.now }
 {
     let mut bytes = [0; 128];

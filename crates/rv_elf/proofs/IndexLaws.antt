@@ -5,11 +5,11 @@ use Rattle.std.proofs.lemmas.Bool.{ltb-false, or_parts, cases_lt, cases_order}
 use Rattle.std.proofs.lemmas.List.{get_or-map, map_more, take-map}
 use Rattle.std.proofs.lemmas.List.{length-map}
 use Rattle.std.proofs.lemmas.List.Edits.{length-insert, get_or-insert_at, get_or-insert_below, get_or-insert_above}
-use Rattle.rv_spec.proofs.ChainCore.{In}
+use Rattle.rv_rules.specs.Membership.{In}
 use Rattle.rv_spec.specs.Elf.{Segment as Described, overlaps, some_overlap}
 use Rattle.rv_elf.specs.declared.segment.Segment.{Segment}
 use Rattle.rv_elf.specs.Segments.{described}
-use Rattle.rv_elf.specs.Index.{IsIndex, IsRising, AreBegun}
+use Rattle.rv_elf.specs.Index.{IsIndex, AreRising, AreBegun}
 
 in-left : {A : Type 0} (x : A) (xs ys : List A) → In x xs → In x (xs ++ ys)
 in-left x [] ys m = absurd m
@@ -54,7 +54,7 @@ ahead s t e order taking fits t_fits =
     omega arith
 
 -- an index rises
-pub rises : (index : List Segment) (loads : List Described) → IsIndex index loads → IsRising index
+pub rises : (index : List Segment) (loads : List Described) → IsIndex index loads → AreRising index
 rises index loads x i j d le h = elim (cases_order i j) [
   | inl same ↦ (let e : (get_or index i d).address ≡ (get_or index j d).address = ap (λ k. (get_or index k d).address) same in omega arith)
   | inr (inl less) ↦ (let e = x.apart i j d less h in omega arith)

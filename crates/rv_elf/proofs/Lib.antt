@@ -1,3 +1,4 @@
+mod ImageLaws
 pub mod FaultLaws
 pub mod ScanLaws
 pub mod IndexLaws

@@ -3,10 +3,11 @@ use Rattle.std.proofs.Common.{◌≡◌, inl, inr, ℕ, ◌+◌, ◌-◌, ◌<�
 use Rattle.std.specs.Int.{w32, from_le_bytes}
 use Rattle.std.proofs.lemmas.Bool.{ltb-false, cases_order}
 use Rattle.std.proofs.lemmas.List.{get_or-drop}
-use Rattle.rv_spec.proofs.Members.{all-in, all-of}
-use Rattle.rv_spec.proofs.ImageLaws.{image-is}
+use Rattle.rv_rules.proofs.Lemmas.{all-in, all-of}
+use Rattle.rv_elf.proofs.ImageLaws.{image-is}
 use Rattle.rv_spec.specs.Words.{byte, bytes_from, u32_at}
-use Rattle.rv_spec.specs.Elf.{Segment as Described, load_segments, first_fault, image, image_byte, TakesByteAt}
+use Rattle.rv_spec.specs.Elf.{Segment as Described, load_segments, first_fault, image}
+use Rattle.rv_elf.specs.ByAddress.{image_byte, TakesByteAt}
 use Rattle.rv_elf.specs.declared.segment.Segment.{Segment}
 use Rattle.rv_elf.specs.Loaded.{loaded}
 use Rattle.rv_elf.specs.Segments.{described}

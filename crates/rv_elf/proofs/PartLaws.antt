@@ -3,7 +3,8 @@ use Rattle.std.proofs.Common.{◌≡◌, ℕ, ◌+◌, ◌*◌, ◌%◌, ◌^◌
 use Rattle.std.specs.List.{AllByRecursion, list_any}
 use Rattle.std.proofs.lemmas.List.{length-take-le}
 use Rattle.std.proofs.lemmas.List.Sums.{sum_by-cons}
-use Rattle.rv_spec.specs.Elf.{Segment, overlaps, some_overlap, first_fault, elf_file, image}
+use Rattle.rv_spec.specs.Elf.{Segment, overlaps, some_overlap, first_fault, image}
+use Rattle.rv_elf.specs.ElfFile.{elf_file}
 use Rattle.rv_elf.specs.declared.writer.Part.{Part}
 use Rattle.rv_elf.specs.Written.{with_bytes, segment_of, AreWords, image_of_parts, HoldsParts}
 use Rattle.rv_elf.proofs.WriterLaws.{lens, length-with_bytes, bodies}

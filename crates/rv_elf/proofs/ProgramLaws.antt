@@ -4,7 +4,7 @@ use Rattle.std.specs.List.{AllByRecursion}
 use Rattle.std.specs.Int.{w32, from_le_bytes}
 use Rattle.rv_spec.specs.Words.{AreBytes}
 use Rattle.rv_spec.specs.Elf.{Segment, first_fault, load_segments, block_of, image}
-use Rattle.rv_spec.specs.Agreement.{IsProgram}
+use Rattle.rv_rules.specs.Agreement.{IsProgram}
 use Rattle.rv_elf.proofs.HeaderLaws.{entry_aligned}
 
 pub bytes-are : (bytes : List ℕ) → ((i : ℕ) → get_or bytes i 0 < 2 ^ 8) → AreBytes bytes

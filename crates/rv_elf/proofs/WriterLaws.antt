@@ -4,9 +4,9 @@ use Rattle.std.specs.List.{AllByRecursion, flat_map}
 use Rattle.std.proofs.lemmas.List.Sums.{sum_by-cons}
 use Rattle.std.specs.Int.{w16, to_le_bytes}
 use Rattle.std.proofs.lemmas.List.{length-take-le}
-use Rattle.rv_spec.specs.Elf.{part_headers, elf_file}
+use Rattle.rv_elf.specs.ElfFile.{part_headers, elf_file}
 use Rattle.rv_elf.specs.declared.writer.Part.{Part}
-use Rattle.rv_elf.specs.Written.{with_bytes, AreWords, elf_header, table_of, words}
+use Rattle.rv_elf.specs.Written.{with_bytes, AreWords, elf_header, header_table, words_bytes}
 
 abbrev pub lens : List Part → ℕ
 lens ps = sum_by (λ p. p.len) ps
@@ -26,10 +26,10 @@ bodies (p ∷ ps) bs e =
     ap (λ t. take p.len bs ++ t) (bodies ps (drop p.len bs) (let l = length-drop p.len bs in omega arith)) ∙ take-append-drop p.len bs
 
 abbrev block : ℕ → Part → ℕ → List ℕ
-block o p n = words (1 ∷ o ∷ p.addr ∷ p.addr ∷ n ∷ p.size ∷ 7 ∷ 4 ∷ [])
+block o p n = words_bytes (1 ∷ o ∷ p.addr ∷ p.addr ∷ n ∷ p.size ∷ 7 ∷ 4 ∷ [])
 
-pub table-is : (o : ℕ) (ps : List Part) (bs : List ℕ) → lens ps ≡ length bs → table_of o ps ≡ part_headers o (with_bytes ps bs)
-unfolding table_of
+pub table-is : (o : ℕ) (ps : List Part) (bs : List ℕ) → lens ps ≡ length bs → header_table o ps ≡ part_headers o (with_bytes ps bs)
+unfolding header_table
 table-is o [] bs e = refl
 table-is o (p ∷ ps) bs e =
     let sum : p.len + lens ps ≡ length bs = sym (sum_by-cons (λ p. p.len) p ps) ∙ e in
@@ -39,7 +39,7 @@ table-is o (p ∷ ps) bs e =
     ∙ ap (λ n. block o p n ++ part_headers (o + n) rest) (sym taken)
 
 pub file-is : (entry : ℕ) (ps : List Part) (bs : List ℕ) → lens ps ≡ length bs
-    → elf_header entry (length ps) ++ table_of (52 + 32 * length ps) ps ++ bs ≡ elf_file entry (with_bytes ps bs)
+    → elf_header entry (length ps) ++ header_table (52 + 32 * length ps) ps ++ bs ≡ elf_file entry (with_bytes ps bs)
 unfolding elf_file
 file-is entry ps bs e =
     let n = length (with_bytes ps bs) in
@@ -56,14 +56,14 @@ module _ (ps : List Part) (i : ℕ) (d : Part) (h : i < length ps) where
   pub lens-next : lens (drop i ps) ≡ (get_or ps i d).len + lens (drop (i + 1) ps)
   lens-next = ap lens next ∙ sum_by-cons (λ p. p.len) (get_or ps i d) (drop (i + 1) ps)
 
-  pub table-next : (o : ℕ) (before now all : List ℕ) → before ++ table_of o (drop i ps) ≡ all
-      → now ≡ before ++ block o (get_or ps i d) (get_or ps i d).len → now ++ table_of (o + (get_or ps i d).len) (drop (i + 1) ps) ≡ all
-  unfolding table_of
+  pub table-next : (o : ℕ) (before now all : List ℕ) → before ++ header_table o (drop i ps) ≡ all
+      → now ≡ before ++ block o (get_or ps i d) (get_or ps i d).len → now ++ header_table (o + (get_or ps i d).len) (drop (i + 1) ps) ≡ all
+  unfolding header_table
   table-next o before now all e is =
       let p = get_or ps i d in
-      ap (λ z. z ++ table_of (o + p.len) (drop (i + 1) ps)) is
-      ∙ append_assoc before (block o p p.len) (table_of (o + p.len) (drop (i + 1) ps))
-      ∙ ap (λ l. before ++ table_of o l) (sym next)
+      ap (λ z. z ++ header_table (o + p.len) (drop (i + 1) ps)) is
+      ∙ append_assoc before (block o p p.len) (header_table (o + p.len) (drop (i + 1) ps))
+      ∙ ap (λ l. before ++ header_table o l) (sym next)
       ∙ e
 
 -- one more part whose numbers have 32 bits
@@ -76,11 +76,11 @@ ranges-next ps i d before new = subst (λ k. AllByRecursion AreWords (take k ps)
     one_more (p ∷ ps) (suc i) before new = (before.0, one_more ps i before.1 new)
 
 -- behind the last part nothing is left
-pub table-done : (ps : List Part) (i o : ℕ) (before all : List ℕ) → length ps ≤ i → before ++ table_of o (drop i ps) ≡ all → before ≡ all
-unfolding table_of
+pub table-done : (ps : List Part) (i o : ℕ) (before all : List ℕ) → length ps ≤ i → before ++ header_table o (drop i ps) ≡ all → before ≡ all
+unfolding header_table
 table-done ps i o before all h e =
     let none : drop i ps ≡ [] = drop_all ps i h in
-    sym (append-nil before) ∙ ap (λ l. before ++ table_of o l) (sym none) ∙ e
+    sym (append-nil before) ∙ ap (λ l. before ++ header_table o l) (sym none) ∙ e
   where
     drop_all : (ps : List Part) (i : ℕ) → length ps ≤ i → drop i ps ≡ []
     drop_all [] zero h = refl
@@ -90,6 +90,6 @@ table-done ps i o before all h e =
 
 -- the ELF header, as it is appended
 pub header-is : (old : List ℕ) (entry n : ℕ)
-    → ((((old ++ (0x7F ∷ 0x45 ∷ 0x4C ∷ 0x46 ∷ 1 ∷ 1 ∷ 1 ∷ 0 ∷ 0 ∷ 0 ∷ 0 ∷ 0 ∷ 0 ∷ 0 ∷ 0 ∷ 0 ∷ 2 ∷ 0 ∷ 243 ∷ 0 ∷ [])) ++ words (1 ∷ entry ∷ 52 ∷ 0 ∷ 0 ∷ [])) ++ (52 ∷ 0 ∷ 32 ∷ 0 ∷ [])) ++ to_le_bytes w16 n) ++ replicate 6 0
+    → ((((old ++ (0x7F ∷ 0x45 ∷ 0x4C ∷ 0x46 ∷ 1 ∷ 1 ∷ 1 ∷ 0 ∷ 0 ∷ 0 ∷ 0 ∷ 0 ∷ 0 ∷ 0 ∷ 0 ∷ 0 ∷ 2 ∷ 0 ∷ 243 ∷ 0 ∷ [])) ++ words_bytes (1 ∷ entry ∷ 52 ∷ 0 ∷ 0 ∷ [])) ++ (52 ∷ 0 ∷ 32 ∷ 0 ∷ [])) ++ to_le_bytes w16 n) ++ replicate 6 0
     ≡ old ++ elf_header entry n
 header-is old entry n = simp append_assoc

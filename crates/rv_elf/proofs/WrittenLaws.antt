@@ -7,26 +7,28 @@ use Rattle.std.proofs.lemmas.Nat.{from_le_bytes-to_le_bytes_2, from_le_bytes-to_
 use Rattle.std.proofs.Math.Seq.{drop-append_seam, take-append_seam}
 use Rattle.std.proofs.lemmas.List.{get_or_append_left}
 use Rattle.rv_spec.specs.Words.{Block, u16_at, u32_at}
-use Rattle.rv_spec.specs.Elf.{Segment, Part, headers, headers_at, header_at, header_count, load_segments, some_overlap, first_fault, block_of, part_headers, elf_file, Image, image, image_byte, TakesByteAt}
-use Rattle.rv_spec.proofs.ImageLaws.{image-is}
+use Rattle.rv_spec.specs.Elf.{Segment, headers, headers_at, header_at, header_count, load_segments, some_overlap, first_fault, block_of, Image, image}
+use Rattle.rv_elf.specs.ElfFile.{PartBytes, part_headers, elf_file}
+use Rattle.rv_elf.specs.ByAddress.{image_byte, TakesByteAt}
+use Rattle.rv_elf.proofs.ImageLaws.{image-is}
 use Rattle.rv_elf.specs.Written.{elf_header, image_of_parts, IsWithin, HoldsParts}
 use Rattle.rv_elf.specs.Faults.{IsClear}
 use Rattle.rv_elf.proofs.FaultLaws.{faultless, clear_more}
 use Rattle.rv_elf.proofs.HeaderLaws.{has_magic, clear-1, clear-2, clear-3, clear-4, clear-5, clear-6, clear-7, clear-8, clear-9}
 
-abbrev pub bodies_of : List Part → List ℕ
+abbrev pub bodies_of : List PartBytes → List ℕ
 bodies_of ps = flat_map (λ p. p.bytes) ps
 
 -- the segment of a part whose bytes begin at an offset, and the segments of all parts
-abbrev segment_at : ℕ → Part → Segment
+abbrev segment_at : ℕ → PartBytes → Segment
 segment_at o p = record { kind = 1; offset = o; address = p.address; file_size = length p.bytes; memory_size = p.size }
 
-abbrev pub segments_from : ℕ → List Part → List Segment
+abbrev pub segments_from : ℕ → List PartBytes → List Segment
 segments_from o [] = []
 segments_from o (p ∷ ps) = segment_at o p ∷ segments_from (o + length p.bytes) ps
 
 -- what each part meets
-pub record IsWritable (p : Part) : Type 0 where
+pub record IsWritable (p : PartBytes) : Type 0 where
   pub address : p.address < 2 ^ 32
   pub size : p.size < 2 ^ 32
   pub fits : length p.bytes ≤ p.size
@@ -56,12 +58,12 @@ header_behind F a =
     ∙ ap (λ z. header_of (u32_at F a) (u32_at (drop a F) 4) (u32_at (drop a F) 8) z (u32_at F (a + 20))) (number_behind F a 16)
     ∙ ap (λ z. header_of (u32_at F a) (u32_at (drop a F) 4) (u32_at (drop a F) 8) (u32_at (drop a F) 16) z) (number_behind F a 20)
 
-abbrev part_header : ℕ → Part → List ℕ
+abbrev part_header : ℕ → PartBytes → List ℕ
 part_header o p =
     to_le_bytes w32 1 ++ to_le_bytes w32 o ++ to_le_bytes w32 p.address ++ to_le_bytes w32 p.address
     ++ to_le_bytes w32 (length p.bytes) ++ to_le_bytes w32 p.size ++ to_le_bytes w32 7 ++ to_le_bytes w32 4
 
-written_header : (o : ℕ) (p : Part) (X : List ℕ) → o < 2 ^ 32 → IsWritable p → header_at (part_header o p ++ X) 0 ≡ segment_at o p
+written_header : (o : ℕ) (p : PartBytes) (X : List ℕ) → o < 2 ^ 32 → IsWritable p → header_at (part_header o p ++ X) 0 ≡ segment_at o p
 written_header o p X h w =
     let back : ℕ → ℕ = λ v. from_le_bytes w32 (to_le_bytes w32 v) in
     let size = w.size in let fits = w.fits in
@@ -70,7 +72,7 @@ written_header o p X h w =
     ∙ ap (λ z. header_of 1 o p.address z (back p.size)) (from_le_bytes-to_le_bytes_4 (length p.bytes) (omega arith))
     ∙ ap (λ z. header_of 1 o p.address (length p.bytes) z) (from_le_bytes-to_le_bytes_4 p.size w.size)
 
-pub table_read : (F : List ℕ) (base k o : ℕ) (ps : List Part) (X : List ℕ) → o + length (bodies_of ps) < 2 ^ 32 → AllByRecursion IsWritable ps
+pub table_read : (F : List ℕ) (base k o : ℕ) (ps : List PartBytes) (X : List ℕ) → o + length (bodies_of ps) < 2 ^ 32 → AllByRecursion IsWritable ps
     → drop (base + 32 * k) F ≡ part_headers o ps ++ X → map (λ i. header_at F (base + 32 * i)) (range_with_len k (length ps)) ≡ segments_from o ps
 table_read F base k o [] X room w e = refl
 table_read F base k o (p ∷ ps) X room w e =
@@ -85,34 +87,34 @@ table_read F base k o (p ∷ ps) X room w e =
 
 -- ---- the segments
 
-all_loads : (o : ℕ) (ps : List Part) → filter (λ s. s.kind == 1) (segments_from o ps) ≡ segments_from o ps
+all_loads : (o : ℕ) (ps : List PartBytes) → filter (λ s. s.kind == 1) (segments_from o ps) ≡ segments_from o ps
 all_loads o [] = refl
 all_loads o (p ∷ ps) = ap (λ t. segment_at o p ∷ t) (all_loads (o + length p.bytes) ps)
 
-no_interpreter : (o : ℕ) (ps : List Part) → list_any (λ s. s.kind == 3) (segments_from o ps) ≡ false
+no_interpreter : (o : ℕ) (ps : List PartBytes) → list_any (λ s. s.kind == 3) (segments_from o ps) ≡ false
 no_interpreter o [] = refl
 no_interpreter o (p ∷ ps) = no_interpreter (o + length p.bytes) ps
 
-in_file : (o n : ℕ) (ps : List Part) → o + length (bodies_of ps) ≤ n → list_any (λ s. nat_lt n (s.offset + s.file_size)) (segments_from o ps) ≡ false
+in_file : (o n : ℕ) (ps : List PartBytes) → o + length (bodies_of ps) ≤ n → list_any (λ s. nat_lt n (s.offset + s.file_size)) (segments_from o ps) ≡ false
 in_file o n [] h = refl
 in_file o n (p ∷ ps) h =
     let sizes : length (p.bytes ++ bodies_of ps) ≡ length p.bytes + length (bodies_of ps) = length-append p.bytes (bodies_of ps) in
     or_from (nat_lt n (o + length p.bytes)) _ (le-ltb n (o + length p.bytes) (omega arith)) (in_file (o + length p.bytes) n ps (omega arith))
 
-sizes_fit : (o : ℕ) (ps : List Part) → AllByRecursion IsWritable ps → list_any (λ s. nat_lt s.memory_size s.file_size) (segments_from o ps) ≡ false
+sizes_fit : (o : ℕ) (ps : List PartBytes) → AllByRecursion IsWritable ps → list_any (λ s. nat_lt s.memory_size s.file_size) (segments_from o ps) ≡ false
 sizes_fit o [] w = refl
 sizes_fit o (p ∷ ps) w = or_from (nat_lt p.size (length p.bytes)) _ (le-ltb p.size (length p.bytes) w.0.fits) (sizes_fit (o + length p.bytes) ps w.1)
 
-in_memory : (o : ℕ) (ps : List Part) → AllByRecursion IsWritable ps → list_any (λ s. nat_lt (2 ^ 32) (s.address + s.memory_size)) (segments_from o ps) ≡ false
+in_memory : (o : ℕ) (ps : List PartBytes) → AllByRecursion IsWritable ps → list_any (λ s. nat_lt (2 ^ 32) (s.address + s.memory_size)) (segments_from o ps) ≡ false
 in_memory o [] w = refl
 in_memory o (p ∷ ps) w = or_from (nat_lt (2 ^ 32) (p.address + p.size)) _ (le-ltb (2 ^ 32) (p.address + p.size) w.0.in_memory) (in_memory (o + length p.bytes) ps w.1)
 
-as_many : (o : ℕ) (ps : List Part) → length (segments_from o ps) ≡ length ps
+as_many : (o : ℕ) (ps : List PartBytes) → length (segments_from o ps) ≡ length ps
 as_many o [] = refl
 as_many o (p ∷ ps) = ap suc (as_many (o + length p.bytes) ps)
 
 -- the bytes that the segments take are the parts'
-blocks_are : (F : List ℕ) (o : ℕ) (ps : List Part) → drop o F ≡ bodies_of ps → map (block_of F) (segments_from o ps) ≡ map (λ p. record { address = p.address; bytes = p.bytes }) ps
+blocks_are : (F : List ℕ) (o : ℕ) (ps : List PartBytes) → drop o F ≡ bodies_of ps → map (block_of F) (segments_from o ps) ≡ map (λ p. record { address = p.address; bytes = p.bytes }) ps
 blocks_are F o [] e = refl
 blocks_are F o (p ∷ ps) e =
     let block : List ℕ → Block = λ b. record { address = p.address; bytes = b } in
@@ -126,7 +128,7 @@ blocks_are F o (p ∷ ps) e =
 abbrev image_with : ℕ → List Block → Image
 image_with e bs = record { version = 1; entry = e; blocks = bs }
 
-table_length : (o : ℕ) (ps : List Part) → length (part_headers o ps) ≡ 32 * length ps
+table_length : (o : ℕ) (ps : List PartBytes) → length (part_headers o ps) ≡ 32 * length ps
 table_length o [] = refl
 table_length o (p ∷ ps) =
     let rest : length (part_headers (o + length p.bytes) ps) ≡ 32 * length ps = table_length (o + length p.bytes) ps in
@@ -134,7 +136,7 @@ table_length o (p ∷ ps) =
     length-append (part_header o p) (part_headers (o + length p.bytes) ps) in
     split ∙ omega (arith, rest)
 
-module _ (entry : ℕ) (ps : List Part) (small : entry < 2 ^ 32) (aligned : entry % 4 ≡ 0) (few : length ps ≤ 64) (w : AllByRecursion IsWritable ps)
+module _ (entry : ℕ) (ps : List PartBytes) (small : entry < 2 ^ 32) (aligned : entry % 4 ≡ 0) (few : length ps ≤ 64) (w : AllByRecursion IsWritable ps)
     (room : 52 + 32 * length ps + length (bodies_of ps) < 2 ^ 32) (apart : some_overlap (segments_from (52 + 32 * length ps) ps) ≡ false) where
   abbrev F : List ℕ
   F = elf_file entry ps
@@ -240,7 +242,7 @@ module _ (entry : ℕ) (ps : List Part) (small : entry < 2 ^ 32) (aligned : entr
 -- ---- address by address
 
 module _ (F : List ℕ) (a b : ℕ) where
-  held_by_parts : (o : ℕ) (ps : List Part) → drop o F ≡ bodies_of ps
+  held_by_parts : (o : ℕ) (ps : List PartBytes) → drop o F ≡ bodies_of ps
       → AllByRecursion (λ s. TakesByteAt s a → b ≡ slice_index F (s.offset + (a - s.address))) (segments_from o ps)
       → AllByRecursion (λ p. IsWithin p a → b ≡ slice_index p.bytes (a - p.address)) ps
   held_by_parts o [] e h = tt
@@ -252,11 +254,11 @@ module _ (F : List ℕ) (a b : ℕ) where
         held_by_parts (o + length p.bytes) ps behind h.1,
       )
 
-  outside_segments : (o : ℕ) (ps : List Part) → AllByRecursion (λ p. ¬ (IsWithin p a)) ps → AllByRecursion (λ s. ¬ (TakesByteAt s a)) (segments_from o ps)
+  outside_segments : (o : ℕ) (ps : List PartBytes) → AllByRecursion (λ p. ¬ (IsWithin p a)) ps → AllByRecursion (λ s. ¬ (TakesByteAt s a)) (segments_from o ps)
   outside_segments o [] h = tt
   outside_segments o (p ∷ ps) h = (h.0, outside_segments (o + length p.bytes) ps h.1)
 
-module _ (entry : ℕ) (ps : List Part) (small : entry < 2 ^ 32) (aligned : entry % 4 ≡ 0) (few : length ps ≤ 64) (w : AllByRecursion IsWritable ps)
+module _ (entry : ℕ) (ps : List PartBytes) (small : entry < 2 ^ 32) (aligned : entry % 4 ≡ 0) (few : length ps ≤ 64) (w : AllByRecursion IsWritable ps)
     (room : 52 + 32 * length ps + length (bodies_of ps) < 2 ^ 32) (apart : some_overlap (segments_from (52 + 32 * length ps) ps) ≡ false) where
   pub holds : HoldsParts ps (image 1 (elf_file entry ps))
   holds =

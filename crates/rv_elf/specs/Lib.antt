@@ -1,3 +1,5 @@
+pub mod ByAddress
+pub mod ElfFile
 pub mod Faults
 pub mod Segments
 pub mod Index

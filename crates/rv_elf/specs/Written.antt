@@ -2,7 +2,9 @@
 use Rattle.std.specs.Prelude.{◌≡◌, ℕ, ◌+◌, ◌-◌, ◌^◌, ◌<◌, ◌≤◌, List, [], ◌∷◌, ◌++◌, length, replicate, take, drop, map, slice_index}
 use Rattle.std.specs.List.{AllByRecursion, flat_map}
 use Rattle.std.specs.Int.{w16, w32, to_le_bytes}
-use Rattle.rv_spec.specs.Elf.{Segment, Image, Part as PartBytes, image_byte}
+use Rattle.rv_spec.specs.Elf.{Segment, Image}
+use Rattle.rv_elf.specs.ElfFile.{PartBytes}
+use Rattle.rv_elf.specs.ByAddress.{image_byte}
 use Rattle.rv_elf.specs.declared.writer.Part.{Part}
 
 -- the parts with their bytes, which lie one part after the other
@@ -34,8 +36,8 @@ pub record HoldsParts (ps : List PartBytes) (i : Image) : Type 0 where
 -- ---- how it is written
 
 -- numbers of four bytes
-abbrev pub words : List ℕ → List ℕ
-words ns = flat_map (to_le_bytes w32) ns
+abbrev pub words_bytes : List ℕ → List ℕ
+words_bytes ns = flat_map (to_le_bytes w32) ns
 
 -- the ELF header before a table of n program headers
 abbrev pub elf_header : ℕ → ℕ → List ℕ
@@ -46,6 +48,6 @@ elf_header entry n =
     ++ to_le_bytes w16 52 ++ to_le_bytes w16 32 ++ to_le_bytes w16 n ++ replicate 6 0
 
 -- the program headers, where the first part's bytes begin at this offset of the file
-unfoldable pub table_of : ℕ → List Part → List ℕ
-table_of offset [] = []
-table_of offset (p ∷ ps) = words (1 ∷ offset ∷ p.addr ∷ p.addr ∷ p.len ∷ p.size ∷ 7 ∷ 4 ∷ []) ++ table_of (offset + p.len) ps
+unfoldable pub header_table : ℕ → List Part → List ℕ
+header_table offset [] = []
+header_table offset (p ∷ ps) = words_bytes (1 ∷ offset ∷ p.addr ∷ p.addr ∷ p.len ∷ p.size ∷ 7 ∷ 4 ∷ []) ++ header_table (offset + p.len) ps

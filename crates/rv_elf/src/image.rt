@@ -3,8 +3,9 @@
 ghost use Rattle.std.specs.Prelude.{◌≡◌, ℕ, ◌+◌, ◌*◌, ◌%◌, ◌^◌, ◌<◌, ◌≤◌, None};
 ghost use Rattle.std.specs.Int.{w32, from_le_bytes, IsInRange};
 ghost use Rattle.rv_spec.specs.Words.{word, bytes_from, u32_at};
-ghost use Rattle.rv_spec.specs.Elf.{Image as ImageOf, image, image_byte, first_fault, load_segments};
-ghost use Rattle.rv_spec.specs.Agreement.{IsProgram};
+ghost use Rattle.rv_spec.specs.Elf.{Image as ImageOf, image, first_fault, load_segments};
+ghost use Rattle.rv_elf.specs.ByAddress.{image_byte};
+ghost use Rattle.rv_rules.specs.Agreement.{IsProgram};
 ghost use Rattle.rv_elf.specs.Index.{IsIndex};
 ghost use Rattle.rv_elf.specs.Loaded.{loaded};
 
@@ -26,13 +27,13 @@ pub struct Image<'a> {
 
 impl<'a> Model for Image<'a> {
     ghost use Rattle.rv_spec.specs.Elf.{Image as ImageOf, image};
-    ghost use Rattle.rv_elf.specs.Index.{IsKept};
+    ghost use Rattle.rv_elf.specs.Index.{IsImageIndex};
 
     ghost Value = { ImageOf };
 
     ghost view = { λ i. image i.version i.file.now };
 
-    ghost invariant = { λ i. IsKept i.version i.entry i.file.now i.index.items };
+    ghost invariant = { λ i. IsImageIndex i.version i.entry i.file.now i.index.items };
 }
 
 impl<'a> Image<'a> {

@@ -4,7 +4,7 @@ ghost use Rattle.std.specs.Prelude.{◌≡◌, ℕ, ◌≤◌, ◌<◌, length, 
 ghost use Rattle.std.specs.List.{All};
 ghost use Rattle.rv_spec.specs.Elf.{some_overlap};
 ghost use Rattle.rv_elf.specs.Segments.{described};
-ghost use Rattle.rv_elf.specs.Index.{IsIndex, IsRising, AreBegun, IsLastOf};
+ghost use Rattle.rv_elf.specs.Index.{IsIndex, AreRising, AreBegun, IsLastOf};
 
 use crate::segment::Segment;
 use arrayvec::ArrayVec;
@@ -28,7 +28,7 @@ pub fn by_address(loads: &[Segment]) -> ArrayVec<Segment, 64>
 
 /// How many of the segments begin at or below the address.
 fn begun(index: &[Segment], address: u32) -> usize
-    requires { IsRising index.now }
+    requires { AreRising index.now }
     ensures { AreBegun index.now address result }
 {
     index.partition_point(
@@ -40,7 +40,7 @@ fn begun(index: &[Segment], address: u32) -> usize
 
 /// The last segment that begins at or below the address.
 pub fn last_begun(index: &[Segment], address: u32) -> Option<Segment>
-    requires { IsRising index.now }
+    requires { AreRising index.now }
     ensures { (n : ℕ) × AreBegun index.now address n × IsLastOf index.now n result }
 {
     match begun(index, address) {

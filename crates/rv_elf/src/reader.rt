@@ -1,7 +1,8 @@
 //! From a file to its image, or to its first fault.
 
 ghost use Rattle.std.specs.Prelude.{◌≡◌, ℕ, ◌≤◌, List, Some, None, length, IfOk, IfErr};
-ghost use Rattle.rv_spec.specs.Elf.{first_fault, image, headers, IsImage};
+ghost use Rattle.rv_spec.specs.Elf.{first_fault, image, headers};
+ghost use Rattle.rv_elf.specs.ByAddress.{IsImage};
 ghost use Rattle.rv_elf.specs.Segments.{IsScan};
 ghost use Rattle.rv_elf.specs.Faults.{number_of, IsClear};
 

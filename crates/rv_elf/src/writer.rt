@@ -2,8 +2,9 @@
 
 ghost use Rattle.std.specs.Prelude.{◌≡◌, ℕ, ◌+◌, ◌*◌, ◌%◌, ◌^◌, ◌<◌, ◌≤◌, ◌++◌, false, List, [], ◌∷◌, None, length, map, sum_by, IfOk};
 ghost use Rattle.std.specs.List.{AllByRecursion};
-ghost use Rattle.rv_spec.specs.Elf.{elf_file, first_fault, image, some_overlap};
-ghost use Rattle.rv_elf.specs.Written.{with_bytes, segment_of, image_of_parts, AreWords, elf_header, table_of, words, HoldsParts};
+ghost use Rattle.rv_elf.specs.ElfFile.{elf_file};
+ghost use Rattle.rv_spec.specs.Elf.{first_fault, image, some_overlap};
+ghost use Rattle.rv_elf.specs.Written.{with_bytes, segment_of, image_of_parts, AreWords, elf_header, header_table, words_bytes, HoldsParts};
 
 use crate::segment::{HEADER_SIZE, PT_LOAD};
 use rv_base::NoMemory;
@@ -55,7 +56,7 @@ fn write_all(alloc: Global, entry: u32, parts: &[Part], bytes: &[u8]) -> Result<
     requires few { length parts.now ≤ 64 }
     requires whole { sum_by (λ p. p.len) parts.now ≡ length bytes.now }
     requires within_limit { 52 + 32 * length parts.now + length bytes.now ≤ 67108864 }
-    ensures file { IfOk result (λ v. v.items ≡ elf_header entry (length parts.now) ++ table_of (52 + 32 * length parts.now) parts.now ++ bytes.now) }
+    ensures file { IfOk result (λ v. v.items ≡ elf_header entry (length parts.now) ++ header_table (52 + 32 * length parts.now) parts.now ++ bytes.now) }
     ensures ranges { IfOk result (λ _. AllByRecursion AreWords parts.now) }
 {
     let table_end = 52 + HEADER_SIZE * parts.len();
@@ -84,7 +85,7 @@ pub(crate) fn put_header(file: &mut Vec<u8>, entry: u32, count: u16) -> Result<(
 /// Appends a program header for each part, where the first part's bytes begin at that offset of the file.
 fn put_table(file: &mut Vec<u8>, mut offset: u32, parts: &[Part]) -> Result<(), AllocError>
     requires { offset + sum_by (λ p. p.len) parts.now < 2 ^ 32 }
-    ensures table { IfOk result (λ _. file.new.items ≡ file.old.items ++ table_of offset parts.now) }
+    ensures table { IfOk result (λ _. file.new.items ≡ file.old.items ++ header_table offset parts.now) }
     ensures ranges { IfOk result (λ _. AllByRecursion AreWords parts.now) }
 {
     for part in parts {
@@ -103,7 +104,7 @@ fn put_segment(
     len: u32,
     size: u32,
 ) -> Result<(), AllocError>
-    ensures header { IfOk result (λ _. file.new.items ≡ file.old.items ++ words (1 ∷ offset ∷ address ∷ address ∷ len ∷ size ∷ 7 ∷ 4 ∷ [])) }
+    ensures header { IfOk result (λ _. file.new.items ≡ file.old.items ++ words_bytes (1 ∷ offset ∷ address ∷ address ∷ len ∷ size ∷ 7 ∷ 4 ∷ [])) }
     ensures ranges { (address < 2 ^ 32) × (size < 2 ^ 32) }
 {
     // p_type, p_offset, p_vaddr, p_paddr, p_filesz, p_memsz, p_flags and p_align
@@ -117,7 +118,7 @@ fn put_segment(
 
 /// Appends numbers of four bytes.
 pub(crate) fn put_words(file: &mut Vec<u8>, numbers: &[u32]) -> Result<(), AllocError>
-    ensures { IfOk result (λ _. file.new.items ≡ file.old.items ++ words numbers.now) }
+    ensures { IfOk result (λ _. file.new.items ≡ file.old.items ++ words_bytes numbers.now) }
 {
     for number in numbers {
         file.extend_from_slice(&number.to_le_bytes())?;

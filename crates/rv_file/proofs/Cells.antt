@@ -5,10 +5,10 @@ use Rattle.std.specs.List.{flat_map, range_with_len, AllByRecursion}
 use Rattle.std.proofs.lemmas.List.{length-append, drop_at}
 use Rattle.std.proofs.lemmas.List.FromFn.{length-map-range_with_len}
 use Rattle.rv_spec.specs.Words.{u64_at}
-use Rattle.rv_spec.specs.Digest.{digest_bytes}
-use Rattle.rv_spec.specs.Form.{AreNumbers}
-use Rattle.rv_spec.specs.Reading.{digest_of}
-use Rattle.rv_row.proofs.Numbers.{IsBytes, wide64, field64, below64}
+use Rattle.rv_spec.specs.Digest.{set_digest_bytes}
+use Rattle.rv_spec.specs.Grammar.{AreNumbers}
+use Rattle.rv_rules.specs.Reading.{digest_of}
+use Rattle.rv_row.proofs.Lemmas.{IsBytes, wide64, field64, below64}
 
 abbrev lane_at : List ℕ → ℕ → ℕ
 lane_at bytes j = u64_at bytes (8 * j)
@@ -25,7 +25,7 @@ lanes_take bytes i (suc n) fits room =
     ∙ ap (λ (xs : List ℕ). to_le_bytes w64 (lane_at bytes i) ++ xs) others
     ∙ field64 bytes (8 * i) (8 * (i + 1)) fits (omega arith) (omega arith)
 
-pub digest_takes : (bytes : List ℕ) → IsBytes bytes → 128 ≤ length bytes → digest_bytes (digest_of bytes) ++ drop 128 bytes ≡ bytes
+pub digest_takes : (bytes : List ℕ) → IsBytes bytes → 128 ≤ length bytes → set_digest_bytes (digest_of bytes) ++ drop 128 bytes ≡ bytes
 digest_takes bytes fits room = lanes_take bytes 0 16 fits room
 
 lanes_fit : (bytes : List ℕ) (i n : ℕ) → IsBytes bytes → AllByRecursion (λ x. x < 2 ^ 64) (map (lane_at bytes) (range_with_len i n))
@@ -48,14 +48,14 @@ lanes_again (x ∷ xs) whole before rest i fits at is =
     let others = lanes_again xs whole (before ++ one) rest (i + 1) fits.1 size (regrouped ∙ sym (append_assoc before one behind)) in
     λ t. first t ∷ others t
 
-pub digest_again : (xs rest : List ℕ) → AreNumbers 16 64 xs → digest_of (digest_bytes xs ++ rest) ≡ xs
+pub digest_again : (xs rest : List ℕ) → AreNumbers 16 64 xs → digest_of (set_digest_bytes xs ++ rest) ≡ xs
 digest_again xs rest fits =
-    ap (λ n. map (lane_at (digest_bytes xs ++ rest)) (range_with_len 0 n)) (sym fits.0)
-    ∙ lanes_again xs (digest_bytes xs ++ rest) [] rest 0 fits.1 refl refl
+    ap (λ n. map (lane_at (set_digest_bytes xs ++ rest)) (range_with_len 0 n)) (sym fits.0)
+    ∙ lanes_again xs (set_digest_bytes xs ++ rest) [] rest 0 fits.1 refl refl
 
 length-lanes : (xs : List ℕ) → length (flat_map (to_le_bytes w64) xs) ≡ 8 * length xs
 length-lanes [] = refl
 length-lanes (x ∷ xs) = length-append (to_le_bytes w64 x) (flat_map (to_le_bytes w64) xs) ∙ omega (arith, length-lanes xs)
 
-pub length-digest_bytes : (xs : List ℕ) → AreNumbers 16 64 xs → length (digest_bytes xs) ≡ 128
+pub length-digest_bytes : (xs : List ℕ) → AreNumbers 16 64 xs → length (set_digest_bytes xs) ≡ 128
 length-digest_bytes xs fits = length-lanes xs ∙ omega (arith, fits.0)

@@ -9,11 +9,11 @@ use Rattle.rv_base.specs.declared.record.Refusal.{Refusal}
 use Rattle.rv_base.specs.declared.record.TableEntry.{TableEntry}
 use Rattle.rv_spec.specs.Cells.{is_cell}
 use Rattle.rv_spec.specs.Record.{entry_bytes}
-use Rattle.rv_spec.specs.Form.{EntryFits, IsRising}
-use Rattle.rv_spec.specs.Reading.{entry_of, above, read_entry, read_entries}
-use Rattle.rv_spec.specs.Checks.{Check, ◌>>=◌}
-use Rattle.rv_row.proofs.Numbers.{IsBytes, IsBytes-drop, wide32, wide64, field32, field64, below32, below64}
-use Rattle.rv_row.proofs.RowLaws.{all_hold, hold}
+use Rattle.rv_spec.specs.Grammar.{EntryFits, IsRising}
+use Rattle.rv_rules.specs.Reading.{entry_of, above, read_entry, read_entries}
+use Rattle.rv_rules.specs.Checks.{Check, ◌>>=◌}
+use Rattle.rv_row.proofs.Lemmas.{IsBytes, IsBytes-drop, wide32, wide64, field32, field64, below32, below64}
+use Rattle.rv_row.proofs.Lemmas.{all_hold, hold}
 use Rattle.rv_file.proofs.Steps.{bind_ok, unless_ok, unless_holds, ok_is}
 
 spell_entry : (e : TableEntry) (d16 d8 d4 d0 : List ℕ) → to_le_bytes w64 e.time ++ d16 ≡ d8 → to_le_bytes w32 e.value ++ d8 ≡ d4 → to_le_bytes w32 e.cell ++ d4 ≡ d0 → entry_bytes e ++ d16 ≡ d0

@@ -9,14 +9,16 @@ use Rattle.std.proofs.lemmas.Slice.Eq.{bytes_eq-Decides}
 use Rattle.rv_base.specs.declared.record.Header.{Header}
 use Rattle.rv_base.specs.declared.record.Refusal.{Refusal}
 use Rattle.rv_spec.specs.Words.{u32_at}
-use Rattle.rv_spec.specs.Digest.{tiny_lanes}
+use Rattle.rv_rules.specs.Sums.{tiny_lanes}
 use Rattle.rv_spec.specs.Record.{Shard, Parts, magic, header_bytes, shard_bytes, entry_bytes, table_bytes, file_bytes}
-use Rattle.rv_spec.specs.Form.{AreNumbers, HeaderFits, PartsFit, Spells, NoProperPrefix}
-use Rattle.rv_spec.specs.Reading.{Reading, header_of, read_entries, read_file, first_place}
-use Rattle.rv_spec.specs.Checks.{Check, first_broken, unless_broken, ◌>>=◌}
-use Rattle.rv_spec.specs.Verdict.{parse, FormIsGrammar}
-use Rattle.rv_row.proofs.Numbers.{IsBytes, IsBytes-drop, IsBytes-take, are_bytes, bytes_are, field32, below32, below64, wide32}
-use Rattle.rv_row.proofs.RowLaws.{all_hold, hold}
+use Rattle.rv_spec.specs.Grammar.{AreNumbers, HeaderFits, PartsFit, Spells}
+use Rattle.rv_rules.specs.Laws.{NoProperPrefix}
+use Rattle.rv_rules.specs.Reading.{Reading, header_of, read_entries, read_file, first_place}
+use Rattle.rv_rules.specs.Checks.{Check, first_broken, unless_broken, ◌>>=◌}
+use Rattle.rv_rules.specs.Verdict.{parse}
+use Rattle.rv_rules.specs.Laws.{FormIsGrammar}
+use Rattle.rv_row.proofs.Lemmas.{IsBytes, IsBytes-drop, IsBytes-take, are_bytes, bytes_are, field32, below32, below64, wide32}
+use Rattle.rv_row.proofs.Lemmas.{all_hold, hold}
 use Rattle.rv_file.proofs.Steps.{bind_ok, unless_ok, unless_holds, ok_is}
 use Rattle.rv_file.proofs.ShardLaws.{shards_in, shards_taken, shards_read}
 use Rattle.rv_file.proofs.EntryLaws.{entries_taken, entries_read}
@@ -110,10 +112,10 @@ header_good file fits e =
         size = (leb-true 1 h.size size.0, leb-true h.size 65536 size.1);
         steps = (at_least, omega arith);
         shards = eqb-true h.shards (div_ceil h.steps h.size) steps.1;
-        most = leb-true h.shards 65536 counts.1;
+        shards_within = leb-true h.shards 65536 counts.1;
         kind = leb-true h.end.kind 5 end.0;
         code = below32 file 153 fits;
-        plain = plain_holds h.end.kind h.end.code end.1;
+        code_of_exit = plain_holds h.end.kind h.end.code end.1;
         consumed = below64 file 157 fits;
         length = leb-true h.length 67108864 c8.0;
       };
@@ -125,8 +127,8 @@ header_holds file good =
     let fits = good.fits in
     let size = and_from (nat_le 1 h.size) (nat_le h.size 65536) (le-leb 1 h.size fits.size.0) (le-leb h.size 65536 fits.size.1) in
     let counts = and_from (nat_le 1 h.steps && h.shards == div_ceil h.steps h.size) (nat_le h.shards 65536)
-    (and_from (nat_le 1 h.steps) (h.shards == div_ceil h.steps h.size) (le-leb 1 h.steps fits.steps.0) (eq-eqb h.shards (div_ceil h.steps h.size) fits.shards)) (le-leb h.shards 65536 fits.most) in
-    let end = and_from (nat_le h.end.kind 5) (h.end.kind == 0 || h.end.code == 0) (le-leb h.end.kind 5 fits.kind) (plain_again h.end.kind h.end.code fits.plain) in
+    (and_from (nat_le 1 h.steps) (h.shards == div_ceil h.steps h.size) (le-leb 1 h.steps fits.steps.0) (eq-eqb h.shards (div_ceil h.steps h.size) fits.shards)) (le-leb h.shards 65536 fits.shards_within) in
+    let end = and_from (nat_le h.end.kind 5) (h.end.kind == 0 || h.end.code == 0) (le-leb h.end.kind 5 fits.kind) (plain_again h.end.kind h.end.code fits.code_of_exit) in
     hold (1, is_long file) ((2, is_known file) ∷ from_3 file) (le-leb 173 (length file) (omega (arith, good.room)))
     (hold (2, is_known file) (from_3 file) ((bytes_eq-Decides (take 8 file) (magic h.version)).1 good.known)
     (hold (5, size_holds h) (from_6 file) size
@@ -147,7 +149,7 @@ module _ {A : Type 0} (finish : ℕ → Parts → List ℕ → Result A Refusal)
   after_shards h output shards = unless_broken h.shards 0 ((1, nat_le 4 (length shards.left)) ∷ []) (drop 4 shards.left) >>= after_count h output shards
 
   abbrev pub after_header : Header → List ℕ → Result A Refusal
-  after_header h body = shards_in h.shards h (take h.length body) 0 (first_place false tiny_lanes [] []) (drop h.length body) >>= after_shards h (take h.length body)
+  after_header h body = shards_in h.shards h (take h.length body) 0 (first_place false tiny_lanes [] [] h) (drop h.length body) >>= after_shards h (take h.length body)
 
   abbrev pub chain : List ℕ → Result A Refusal
   chain file = unless_broken 0 0 (all_checks file) (drop 173 file) >>= after_header (header_of file)
@@ -175,7 +177,7 @@ unfolding file_bytes table_bytes
 chain_taken finish file y fits e =
     let h = header_of file in
     let body = drop 173 file in
-    let place = first_place false tiny_lanes [] [] in
+    let place = first_place false tiny_lanes [] [] h in
     let a = bind_ok (unless_broken 0 0 (all_checks file) body) (after_header finish h) y e in
     let u = unless_ok 0 0 (all_checks file) body a.0 a.1 in
     let good = header_good file fits u.0 in
@@ -233,7 +235,7 @@ pub chain_again : {A : Type 0} (finish : ℕ → Parts → List ℕ → Result A
 unfolding file_bytes table_bytes
 chain_again finish p rest fit =
     let h = p.header in
-    let place = first_place false tiny_lanes [] [] in
+    let place = first_place false tiny_lanes [] [] h in
     let file = file_bytes p ++ rest in
     let number = to_le_bytes w32 (length p.table) in
     let entries = flat_map entry_bytes p.table ++ rest in
@@ -255,7 +257,7 @@ chain_again finish p rest fit =
     let output_is : take h.length body ≡ p.output = take_at p.output tail h.length fit.output.0 in
     let tail_is : drop h.length body ≡ tail = drop_at p.output tail h.length fit.output.0 in
     let shards : Reading (List Shard) = record { part = p.shards; place = place; left = left } in
-    let few : 0 + length p.shards ≤ 65536 = omega (arith, fit.count, fit.header.most) in
+    let few : 0 + length p.shards ≤ 65536 = omega (arith, fit.count, fit.header.shards_within) in
     let shards_are : shards_in h.shards h p.output 0 place tail ≡ Ok shards =
     ap (λ n. shards_in n h p.output 0 place tail) (sym fit.count) ∙ shards_read p.shards h p.output 0 place left fit.header.size.1 few fit.shards in
     let counted : unless_broken h.shards 0 ((1, nat_le 4 (length left)) ∷ []) (drop 4 left) ≡ Ok entries =

@@ -4,8 +4,8 @@ use Rattle.std.specs.Prelude.{nat_le, ◌==◌}
 use Rattle.rv_base.specs.declared.record.Header.{Header}
 use Rattle.rv_base.specs.declared.record.Refusal.{Refusal}
 use Rattle.rv_spec.specs.Words.{u32_at}
-use Rattle.rv_spec.specs.Reading.{header_of}
-use Rattle.rv_spec.specs.Checks.{unless_broken, ◌>>=◌}
+use Rattle.rv_rules.specs.Reading.{header_of}
+use Rattle.rv_rules.specs.Checks.{unless_broken, ◌>>=◌}
 use Rattle.rv_file.specs.Skipping.{shards_left, entries_left, form_left}
 use Rattle.rv_file.proofs.FileLaws.{all_checks}
 

@@ -6,9 +6,9 @@ use Rattle.std.proofs.lemmas.List.{get_or-take}
 use Rattle.std.proofs.lemmas.Slice.Eq.{bytes_eq-Decides}
 use Rattle.rv_base.specs.declared.record.Header.{Header}
 use Rattle.rv_spec.specs.Record.{magic}
-use Rattle.rv_spec.specs.Reading.{header_of}
-use Rattle.rv_spec.specs.Checks.{Check, first_broken}
-use Rattle.rv_row.proofs.RowLaws.{all_hold}
+use Rattle.rv_rules.specs.Reading.{header_of}
+use Rattle.rv_rules.specs.Checks.{Check, first_broken}
+use Rattle.rv_row.proofs.Lemmas.{all_hold}
 use Rattle.rv_file.specs.Front.{is_record}
 use Rattle.rv_file.specs.Skipping.{number_checks}
 use Rattle.rv_file.proofs.FileLaws.{all_checks, from_3, from_8, from_7, from_6, is_long, is_known, output_there, output_holds, end_holds, counts_hold, size_holds}

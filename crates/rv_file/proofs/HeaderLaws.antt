@@ -6,9 +6,9 @@ use Rattle.std.proofs.lemmas.List.{length-append, take_at, drop_at, drop-drop, t
 use Rattle.rv_base.specs.LittleEndian.{number_at}
 use Rattle.rv_base.specs.declared.record.Header.{Header}
 use Rattle.rv_spec.specs.Record.{magic, header_bytes}
-use Rattle.rv_spec.specs.Form.{HeaderFits}
-use Rattle.rv_spec.specs.Reading.{header_of}
-use Rattle.rv_row.proofs.Numbers.{IsBytes, wide32, wide64, field32, field64, byte_at_front}
+use Rattle.rv_spec.specs.Grammar.{HeaderFits}
+use Rattle.rv_rules.specs.Reading.{header_of}
+use Rattle.rv_row.proofs.Lemmas.{IsBytes, wide32, wide64, field32, field64, byte_at_front}
 use Rattle.rv_file.specs.Front.{with_numbers}
 
 numbers_behind : (front : List ℕ) (h : Header) (rest : List ℕ) → with_numbers front h ++ rest ≡ front ++ (with_numbers [] h ++ rest)
@@ -87,7 +87,7 @@ header_again h rest fits =
     let input : (header_of whole).input ≡ h.input = ap (λ (xs : List ℕ). take 64 xs) after_elf ∙ take_at h.input tail 64 fits.input.0 in
     let size : (header_of whole).size ≡ h.size = behind w32 whole front tail 136 0 is long refl ∙ wide32.again h.size [] (omega (arith, fits.size.1)) in
     let steps : (header_of whole).steps ≡ h.steps = behind w64 whole front tail 140 4 is long refl ∙ wide64.again h.steps [] (omega (arith, fits.steps.1)) in
-    let shards : (header_of whole).shards ≡ h.shards = behind w32 whole front tail 148 12 is long refl ∙ wide32.again h.shards [] (omega (arith, fits.most)) in
+    let shards : (header_of whole).shards ≡ h.shards = behind w32 whole front tail 148 12 is long refl ∙ wide32.again h.shards [] (omega (arith, fits.shards_within)) in
     let kind : (header_of whole).end.kind ≡ h.end.kind = byte_behind whole front tail 152 16 is long refl in
     let code : (header_of whole).end.code ≡ h.end.code = behind w32 whole front tail 153 17 is long refl ∙ wide32.again h.end.code [] fits.code in
     let consumed : (header_of whole).consumed ≡ h.consumed = behind w64 whole front tail 157 21 is long refl ∙ wide64.again h.consumed [] fits.consumed in

@@ -10,15 +10,15 @@ use Rattle.rv_base.specs.declared.record.ShardHead.{ShardHead}
 use Rattle.rv_base.specs.declared.record.TableEntry.{TableEntry}
 use Rattle.rv_spec.specs.Trace.{Row}
 use Rattle.rv_spec.specs.Words.{u32_at}
-use Rattle.rv_spec.specs.Digest.{tiny_lanes}
+use Rattle.rv_rules.specs.Sums.{tiny_lanes}
 use Rattle.rv_spec.specs.Record.{Shard, Parts, row_bytes, rows_length, shard_rows}
-use Rattle.rv_spec.specs.Reading.{Reading, header_of, head_of, row_of, row_form, read_row, read_rows, read_shard, read_shards, read_entry, read_entries, first_place}
-use Rattle.rv_spec.specs.Checks.{first_broken, refused_by, unless_broken, ◌>>=◌}
-use Rattle.rv_spec.specs.Verdict.{parse}
-use Rattle.rv_row.proofs.Numbers.{IsBytes, IsBytes-drop}
+use Rattle.rv_rules.specs.Reading.{Reading, header_of, head_of, row_of, row_form, read_row, read_rows, read_shard, read_shards, read_entry, read_entries, first_place}
+use Rattle.rv_rules.specs.Checks.{first_broken, refused_by, unless_broken, ◌>>=◌}
+use Rattle.rv_rules.specs.Verdict.{parse}
+use Rattle.rv_row.proofs.Lemmas.{IsBytes, IsBytes-drop}
 use Rattle.rv_file.specs.Skipping.{row_left, rows_left, digests_left, shard_left, shards_left, entries_left, form_left}
-use Rattle.rv_spec.specs.Form.{Spells}
-use Rattle.rv_file.specs.Parsing.{parts_or_none, parts_of, Shows}
+use Rattle.rv_spec.specs.Grammar.{Spells}
+use Rattle.rv_file.specs.Parsing.{parts_or_none, parts_of, RepresentsFile}
 use Rattle.rv_file.proofs.Steps.{ok_is}
 use Rattle.rv_file.proofs.RowLists.{row_in, rows_in, with_row, rows_taken, length-rows}
 use Rattle.rv_file.proofs.ShardLaws.{shard_in, shards_in, agrees, made, ends, with_shard, shard_taken, shards_taken}
@@ -175,7 +175,7 @@ unfolding form_left
 form_is file fits =
     let h = header_of file in
     let body = drop 173 file in
-    let place = first_place false tiny_lanes [] [] in
+    let place = first_place false tiny_lanes [] [] h in
     let output = take h.length body in
     let shards = drop h.length body in
     let shards_fit = IsBytes-drop h.length body (IsBytes-drop 173 file fits) in
@@ -222,7 +222,7 @@ form_ok file h n fits is =
     let s = summary_ok (parse file) h n (form_is file fits ∙ is) in
     s.1 ∙ (λ i. Ok (sym (parts_are file s.0 s.1) i))
 
-pub form_shows : (file : List ℕ) (h : Header) (n : ℕ) → IsBytes file → form_left file ≡ Ok (h, n) → Shows file h n
+pub form_shows : (file : List ℕ) (h : Header) (n : ℕ) → IsBytes file → form_left file ≡ Ok (h, n) → RepresentsFile file h n
 form_shows file h n fits is =
     let s = summary_ok (parse file) h n (form_is file fits ∙ is) in
     let p_is = sym (parts_are file s.0 s.1) in

@@ -6,13 +6,13 @@ use Rattle.rv_base.specs.declared.record.Header.{Header}
 use Rattle.rv_base.specs.declared.record.Place.{Place}
 use Rattle.rv_base.specs.declared.record.Refusal.{Refusal}
 use Rattle.rv_spec.specs.Trace.{Row}
-use Rattle.rv_spec.specs.Digest.{tiny_lanes}
+use Rattle.rv_rules.specs.Sums.{tiny_lanes}
 use Rattle.rv_spec.specs.Record.{row_bytes, rows_length}
-use Rattle.rv_spec.specs.Form.{RowFits}
-use Rattle.rv_spec.specs.Reading.{Reading, row_of, row_form, read_row, read_rows}
-use Rattle.rv_spec.specs.Checks.{◌>>=◌}
-use Rattle.rv_row.proofs.Numbers.{IsBytes, IsBytes-drop}
-use Rattle.rv_row.proofs.RowLaws.{row_takes, row_fits, row_again, good_form, form_holds, good_again, length-row_bytes}
+use Rattle.rv_spec.specs.Grammar.{RowFits}
+use Rattle.rv_rules.specs.Reading.{Reading, row_of, row_form, read_row, read_rows}
+use Rattle.rv_rules.specs.Checks.{◌>>=◌}
+use Rattle.rv_row.proofs.Lemmas.{IsBytes, IsBytes-drop}
+use Rattle.rv_row.proofs.Lemmas.{row_takes, row_fits, row_again, good_form, form_holds, good_again, length-row_bytes}
 use Rattle.rv_file.proofs.Steps.{bind_ok, unless_ok, unless_holds, ok_is}
 
 abbrev pub row_in : Header → List ℕ → ℕ → ℕ → Place → List ℕ → Result (Reading Row) Refusal

@@ -9,13 +9,14 @@ use Rattle.rv_base.specs.declared.record.Place.{Place}
 use Rattle.rv_base.specs.declared.record.Refusal.{Refusal}
 use Rattle.rv_base.specs.declared.record.ShardHead.{ShardHead}
 use Rattle.rv_spec.specs.Trace.{Row}
-use Rattle.rv_spec.specs.Digest.{tiny_lanes, digest_bytes}
+use Rattle.rv_rules.specs.Sums.{tiny_lanes}
+use Rattle.rv_spec.specs.Digest.{set_digest_bytes}
 use Rattle.rv_spec.specs.Record.{Shard, head_bytes, row_bytes, shard_bytes, rows_length, shard_rows}
-use Rattle.rv_spec.specs.Form.{RowFits, ShardFits, ShardsFit}
-use Rattle.rv_spec.specs.Reading.{Reading, head_of, digest_of, read_shard, read_shards}
-use Rattle.rv_spec.specs.Checks.{unless_broken, ◌>>=◌}
-use Rattle.rv_row.proofs.Numbers.{IsBytes, IsBytes-drop, wide32, wide64, field32, field64, below32, below64}
-use Rattle.rv_row.proofs.RowLaws.{all_hold, hold}
+use Rattle.rv_spec.specs.Grammar.{RowFits, ShardFits, ShardsFit}
+use Rattle.rv_rules.specs.Reading.{Reading, head_of, digest_of, read_shard, read_shards}
+use Rattle.rv_rules.specs.Checks.{unless_broken, ◌>>=◌}
+use Rattle.rv_row.proofs.Lemmas.{IsBytes, IsBytes-drop, wide32, wide64, field32, field64, below32, below64}
+use Rattle.rv_row.proofs.Lemmas.{all_hold, hold}
 use Rattle.rv_file.proofs.Steps.{bind_ok, unless_ok, unless_holds, ok_is}
 use Rattle.rv_file.proofs.Cells.{digest_takes, digest_fits, digest_again, length-digest_bytes}
 use Rattle.rv_file.proofs.RowLists.{rows_in, rows_taken, rows_read}
@@ -125,13 +126,13 @@ shard_taken h output i p bytes x fits e =
     let writes = digest_takes second second_fits (omega (arith, length-drop 128 left)) in
     let last : drop 128 second ≡ drop 256 left = drop-drop 128 128 left in
     let rows = flat_map row_bytes b.0.part in
-    let tail : left ≡ digest_bytes (digest_of left) ++ (digest_bytes (digest_of second) ++ drop 256 left) =
-    sym reads ∙ ap (λ (xs : List ℕ). digest_bytes (digest_of left) ++ xs) (sym writes ∙ ap (λ (xs : List ℕ). digest_bytes (digest_of second) ++ xs) last) in
+    let tail : left ≡ set_digest_bytes (digest_of left) ++ (set_digest_bytes (digest_of second) ++ drop 256 left) =
+    sym reads ∙ ap (λ (xs : List ℕ). set_digest_bytes (digest_of left) ++ xs) (sym writes ∙ ap (λ (xs : List ℕ). set_digest_bytes (digest_of second) ++ xs) last) in
     subst (λ (y : Reading Shard). ShardTaken h i bytes y) v.1 (record {
       spelled =
           sym (head_takes bytes fits (leb-true 32 (length bytes) c1.0))
           ∙ ap (λ (xs : List ℕ). head_bytes head ++ xs) (u.1 ∙ rs.spelled ∙ ap (λ (xs : List ℕ). rows ++ xs) tail)
-          ∙ join (head_bytes head) rows (digest_bytes (digest_of left)) (digest_bytes (digest_of second)) (drop 256 left);
+          ∙ join (head_bytes head) rows (set_digest_bytes (digest_of left)) (set_digest_bytes (digest_of second)) (drop 256 left);
       fits = record {
         index = eqb-true head.index i both.0;
         rows = rows_is;
@@ -152,11 +153,11 @@ pub shard_read : (s : Shard) (h : Header) (output : List ℕ) (i : ℕ) (p : Pla
 unfolding read_shard shard_bytes
 shard_read s h output i p rest head_fits fits =
     let n = shard_rows h.size h.steps i in
-    let writes = digest_bytes s.writes ++ rest in
-    let after = digest_bytes s.reads ++ writes in
+    let writes = set_digest_bytes s.writes ++ rest in
+    let after = set_digest_bytes s.reads ++ writes in
     let tail = flat_map row_bytes s.rows ++ after in
     let bytes = head_bytes s.head ++ tail in
-    let regrouped : shard_bytes s ++ rest ≡ bytes = sym (join (head_bytes s.head) (flat_map row_bytes s.rows) (digest_bytes s.reads) (digest_bytes s.writes) rest) in
+    let regrouped : shard_bytes s ++ rest ≡ bytes = sym (join (head_bytes s.head) (flat_map row_bytes s.rows) (set_digest_bytes s.reads) (set_digest_bytes s.writes) rest) in
     let head_is : head_of bytes ≡ s.head = head_again s.head tail head_fits in
     let long : 32 ≤ length bytes = omega (arith, length-append (head_bytes s.head) tail, length-head_bytes s.head) in
     let tail_is : drop 32 bytes ≡ tail = drop_at (head_bytes s.head) tail 32 (length-head_bytes s.head) in
@@ -171,9 +172,9 @@ shard_read s h output i p rest head_fits fits =
     let rows_are : rows_in n h output i 0 p tail ≡ Ok rows = ap (λ k. rows_in k h output i 0 p tail) (sym (fits.count ∙ fits.rows)) ∙ rows_read s.rows h output i 0 p after fits.each in
     let reads_size = length-digest_bytes s.reads fits.reads in
     let writes_size = length-digest_bytes s.writes fits.writes in
-    let second_is : drop 128 after ≡ writes = drop_at (digest_bytes s.reads) writes 128 reads_size in
-    let left_is : drop 256 after ≡ rest = sym (drop-drop 128 128 after) ∙ ap (λ (xs : List ℕ). drop 128 xs) second_is ∙ drop_at (digest_bytes s.writes) rest 128 writes_size in
-    let room : 256 ≤ length after = omega (arith, length-append (digest_bytes s.reads) writes, length-append (digest_bytes s.writes) rest, reads_size, writes_size) in
+    let second_is : drop 128 after ≡ writes = drop_at (set_digest_bytes s.reads) writes 128 reads_size in
+    let left_is : drop 256 after ≡ rest = sym (drop-drop 128 128 after) ∙ ap (λ (xs : List ℕ). drop 128 xs) second_is ∙ drop_at (set_digest_bytes s.writes) rest 128 writes_size in
+    let room : 256 ≤ length after = omega (arith, length-append (set_digest_bytes s.reads) writes, length-append (set_digest_bytes s.writes) rest, reads_size, writes_size) in
     let size_holds = eq-eqb (rows_length s.rows) (head_of bytes).bytes (sym (ap (λ (k : ShardHead). k.bytes) head_is ∙ fits.bytes)) in
     let reads_are : digest_of after ≡ s.reads = digest_again s.reads writes fits.reads in
     let writes_are : digest_of (drop 128 after) ≡ s.writes = ap digest_of second_is ∙ digest_again s.writes rest fits.writes in

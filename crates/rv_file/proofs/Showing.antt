@@ -7,11 +7,11 @@ use Rattle.std.proofs.lemmas.List.{length-append, take_at, drop_at, drop-drop}
 use Rattle.rv_base.specs.declared.record.Header.{Header}
 use Rattle.rv_base.specs.declared.record.ShardHead.{ShardHead}
 use Rattle.rv_base.specs.declared.record.TableEntry.{TableEntry}
-use Rattle.rv_spec.specs.Digest.{digest_bytes}
+use Rattle.rv_spec.specs.Digest.{set_digest_bytes}
 use Rattle.rv_spec.specs.Record.{Shard, Parts, header_bytes, head_bytes, row_bytes, shard_bytes, entry_bytes, table_bytes, file_bytes}
-use Rattle.rv_spec.specs.Form.{ShardFits, ShardsFit, EntryFits, Spells}
-use Rattle.rv_spec.specs.Reading.{head_of, entry_of}
-use Rattle.rv_file.specs.Parsing.{parts_of, Shows, behind_shards, HoldsShards}
+use Rattle.rv_spec.specs.Grammar.{ShardFits, ShardsFit, EntryFits, Spells}
+use Rattle.rv_rules.specs.Reading.{head_of, entry_of}
+use Rattle.rv_file.specs.Parsing.{parts_of, RepresentsFile, behind_shards, HoldsShards}
 use Rattle.rv_file.proofs.Cells.{length-digest_bytes}
 use Rattle.rv_file.proofs.RowLists.{length-rows}
 use Rattle.rv_file.proofs.ShardLaws.{HeadFits, head_fits, head_again, length-head_bytes}
@@ -113,10 +113,10 @@ is_shard h i s small within fits =
     record {
       head = head_fits h i s small within fits;
       size =
-          length-append (head ++ rows ++ digest_bytes s.reads) (digest_bytes s.writes)
+          length-append (head ++ rows ++ set_digest_bytes s.reads) (set_digest_bytes s.writes)
           ∙ omega (
             arith,
-            length-append (head ++ rows) (digest_bytes s.reads),
+            length-append (head ++ rows) (set_digest_bytes s.reads),
             length-append head rows,
             length-head_bytes s.head,
             length-rows s.rows,
@@ -134,8 +134,8 @@ first_head : (s : Shard) (rest : List ℕ) → IsShard s → head_of (shard_byte
 unfolding shard_bytes
 first_head s rest is =
     let rows = flat_map row_bytes s.rows in
-    let digests = digest_bytes s.reads ++ (digest_bytes s.writes ++ rest) in
-    ap head_of (append_assoc (head_bytes s.head ++ rows ++ digest_bytes s.reads) (digest_bytes s.writes) rest ∙ joined (head_bytes s.head) rows (digest_bytes s.reads) (digest_bytes s.writes ++ rest))
+    let digests = set_digest_bytes s.reads ++ (set_digest_bytes s.writes ++ rest) in
+    ap head_of (append_assoc (head_bytes s.head ++ rows ++ set_digest_bytes s.reads) (set_digest_bytes s.writes) rest ∙ joined (head_bytes s.head) rows (set_digest_bytes s.reads) (set_digest_bytes s.writes ++ rest))
     ∙ head_again s.head (rows ++ digests) is.head
 
 pub walks : (i : ℕ) (ss : List Shard) (tail : List ℕ) → i ≤ length ss → AllByRecursion IsShard ss
@@ -164,7 +164,7 @@ pub record ShardAt (p : Parts) (start rest : List ℕ) (i : ℕ) : Type 0 where
 shard_at : (p : Parts) (file start rest : List ℕ) (i : ℕ) → Spells p file → i < p.header.shards → start ≡ drop (173 + p.header.length) file → rest ≡ behind_shards i start → ShardAt p start rest i
 shard_at p file start rest i spells lt from behind =
     let fit = spells.fit in
-    let all = are_shards p.header 0 p.shards fit.header.size.1 (omega (arith, fit.count, fit.header.most)) fit.shards in
+    let all = are_shards p.header 0 p.shards fit.header.size.1 (omega (arith, fit.count, fit.header.shards_within)) fit.shards in
     let tail = table_bytes p.table in
     let is : start ≡ flat_map shard_bytes p.shards ++ tail = from ∙ shards_are p file spells in
     let walk = walks i p.shards tail (omega (arith, fit.count)) all in
@@ -184,10 +184,10 @@ shard_at p file start rest i spells lt from behind =
 
 -- ---- what a file of good form shows
 
-pub same_header : (file : List ℕ) (h : Header) (n : ℕ) → Shows file h n → h.length ≡ (parts_of file).header.length
+pub same_header : (file : List ℕ) (h : Header) (n : ℕ) → RepresentsFile file h n → h.length ≡ (parts_of file).header.length
 same_header file h n shows = ap (λ (k : Header). k.length) shows.header
 
-pub output_room : (file : List ℕ) (h : Header) (n : ℕ) → Shows file h n → 173 + h.length ≤ length file
+pub output_room : (file : List ℕ) (h : Header) (n : ℕ) → RepresentsFile file h n → 173 + h.length ≤ length file
 unfolding file_bytes
 output_room file h n shows =
     let p = parts_of file in
@@ -203,16 +203,16 @@ output_room file h n shows =
       same_header file h n shows,
     )
 
-pub output_shown : (file : List ℕ) (h : Header) (n : ℕ) → Shows file h n → take h.length (drop 173 file) ≡ (parts_of file).output
+pub output_shown : (file : List ℕ) (h : Header) (n : ℕ) → RepresentsFile file h n → take h.length (drop 173 file) ≡ (parts_of file).output
 output_shown file h n shows = ap (λ k. take k (drop 173 file)) (same_header file h n shows) ∙ output_is (parts_of file) file shows.spells
 
 -- entry j lies this far before the end
-pub entry_is : (file : List ℕ) (h : Header) (n j : ℕ) → Shows file h n → j < n → slice_get (parts_of file).table j ≡ Some (entry_of (drop (length file - 16 * (n - j)) file))
+pub entry_is : (file : List ℕ) (h : Header) (n j : ℕ) → RepresentsFile file h n → j < n → slice_get (parts_of file).table j ≡ Some (entry_of (drop (length file - 16 * (n - j)) file))
 entry_is file h n j shows lt =
     entry_shown (parts_of file) file j shows.spells (omega (arith, shows.count))
     ∙ ap (λ m. Some (entry_of (drop (length file - 16 * (m - j)) file))) (sym shows.count)
 
-pub entry_room : (file : List ℕ) (h : Header) (n : ℕ) → Shows file h n → 16 * n ≤ length file
+pub entry_room : (file : List ℕ) (h : Header) (n : ℕ) → RepresentsFile file h n → 16 * n ≤ length file
 entry_room file h n shows = omega (arith, entries_room (parts_of file) file shows.spells, shows.count)
 
 pub past_end : {A : Type 0} (xs : List A) (i : ℕ) → length xs ≤ i → slice_get xs i ≡ None
@@ -220,20 +220,20 @@ past_end [] i le = refl
 past_end (x ∷ xs) zero le = absurd (omega arith)
 past_end (x ∷ xs) (suc i) le = past_end xs i (omega arith)
 
-pub shard_is : (file : List ℕ) (h : Header) (n i : ℕ) (start rest : List ℕ) → Shows file h n → i < h.shards → start ≡ drop (173 + h.length) file → rest ≡ behind_shards i start → ShardAt (parts_of file) start rest i
+pub shard_is : (file : List ℕ) (h : Header) (n i : ℕ) (start rest : List ℕ) → RepresentsFile file h n → i < h.shards → start ≡ drop (173 + h.length) file → rest ≡ behind_shards i start → ShardAt (parts_of file) start rest i
 shard_is file h n i start rest shows lt from behind =
     shard_at (parts_of file) file start rest i shows.spells (omega (arith, ap (λ (k : Header). k.shards) shows.header)) (from ∙ ap (λ k. drop (173 + k) file) (same_header file h n shows)) behind
 
 no_shard_at : {A B : Type 0} (f : A → B) (xs : List A) (i : ℕ) → length xs ≤ i → option_map f (slice_get xs i) ≡ None
 no_shard_at f xs i le = ap (λ o. option_map f o) (past_end xs i le)
 
-pub no_shard : (file : List ℕ) (h : Header) (n i : ℕ) → Shows file h n → h.shards ≤ i → option_map shard_bytes (slice_get (parts_of file).shards i) ≡ None
+pub no_shard : (file : List ℕ) (h : Header) (n i : ℕ) → RepresentsFile file h n → h.shards ≤ i → option_map shard_bytes (slice_get (parts_of file).shards i) ≡ None
 no_shard file h n i shows le = no_shard_at shard_bytes (parts_of file).shards i (omega (arith, shows.spells.fit.count, ap (λ (k : Header). k.shards) shows.header))
 
-pub no_entry : (file : List ℕ) (h : Header) (n j : ℕ) → Shows file h n → n ≤ j → slice_get (parts_of file).table j ≡ None
+pub no_entry : (file : List ℕ) (h : Header) (n j : ℕ) → RepresentsFile file h n → n ≤ j → slice_get (parts_of file).table j ≡ None
 no_entry file h n j shows le = past_end (parts_of file).table j (omega (arith, shows.count))
 
-pub few_entries : (file : List ℕ) (h : Header) (n : ℕ) → Shows file h n → n < 2 ^ 32
+pub few_entries : (file : List ℕ) (h : Header) (n : ℕ) → RepresentsFile file h n → n < 2 ^ 32
 few_entries file h n shows = omega (arith, shows.count, shows.spells.fit.table)
 
 -- ---- steps over shards

@@ -3,8 +3,8 @@ use Rattle.std.proofs.Common.{◌≡◌, ℕ, suc, ◌+◌, ◌-◌, ◌<◌, �
 use Rattle.rv_base.specs.declared.record.Header.{Header}
 use Rattle.rv_base.specs.declared.record.Refusal.{Refusal}
 use Rattle.rv_base.specs.declared.record.TableEntry.{TableEntry}
-use Rattle.rv_spec.specs.Reading.{read_entry}
-use Rattle.rv_spec.specs.Checks.{◌>>=◌}
+use Rattle.rv_rules.specs.Reading.{read_entry}
+use Rattle.rv_rules.specs.Checks.{◌>>=◌}
 use Rattle.rv_file.specs.Skipping.{row_left, rows_left, shard_left, shards_left, entries_left}
 
 pub rows_more : (n i r : ℕ) (bytes left : List ℕ) (total : Result (List ℕ) Refusal) → r < n → row_left i r bytes ≡ Ok left → rows_left (n - r) i r bytes ≡ total → rows_left (n - (r + 1)) i (r + 1) left ≡ total

@@ -5,7 +5,7 @@ use Rattle.std.proofs.lemmas.List.{length-append, length-drop, length-set, lengt
 use Rattle.rv_base.specs.LittleEndian.{SetsNumber}
 use Rattle.rv_base.specs.declared.record.Header.{Header}
 use Rattle.rv_spec.specs.Record.{magic}
-use Rattle.rv_row.proofs.Filling.{fills}
+use Rattle.rv_row.proofs.Lemmas.{fills}
 use Rattle.rv_file.specs.Front.{with_numbers}
 
 -- a field of bytes at a place

@@ -1,32 +1,36 @@
 -- What is left of a file behind its parts, by their form alone: private steps of parsing.
-use Rattle.std.specs.Prelude.{◌≡◌, ℕ, zero, suc, ◌+◌, ◌-◌, ◌*◌, false, ◌&&◌, ◌||◌, List, [], ◌∷◌, length, drop, Option, Some, None, Result, Ok, Err, slice_index, nat_le, ◌==◌}
+use Rattle.std.specs.Prelude.{◌≡◌, ℕ, zero, suc, ◌+◌, ◌-◌, false, ◌&&◌, ◌||◌, List, [], ◌∷◌, length, drop, Option, Some, None, Result, Ok, Err, nat_le, ◌==◌}
 use Rattle.std.specs.Int.{div_ceil, is_in_range}
+use Rattle.rv_base.specs.declared.machine.TheConstants.{EXIT, MISALIGNED_STORE}
+use Rattle.rv_base.specs.declared.limits.TheConstants.{OUTPUT_LIMIT, SHARD_SIZE_LIMIT, SHARDS_LIMIT}
+use Rattle.rv_base.specs.declared.rules.TheConstants.{SHORT, SHARD_SIZE, COUNTS, END_KIND, OUTPUT_LENGTH, SHARD_HEAD, ROW_BYTES, TRAILING}
+use Rattle.rv_base.specs.declared.layout.TheConstants as at
 use Rattle.rv_base.specs.declared.record.Header.{Header}
 use Rattle.rv_base.specs.declared.record.Refusal.{Refusal}
 use Rattle.rv_base.specs.declared.record.ShardHead.{ShardHead}
 use Rattle.rv_spec.specs.Record.{shard_rows}
 use Rattle.rv_spec.specs.Words.{u32_at}
-use Rattle.rv_spec.specs.Digest.{tiny_lanes}
-use Rattle.rv_spec.specs.Reading.{header_of, header_checks, head_of, row_form, read_entry}
-use Rattle.rv_spec.specs.Checks.{Check, unless_broken, ◌>>=◌}
+use Rattle.rv_rules.specs.Sums.{tiny_lanes}
+use Rattle.rv_rules.specs.Reading.{header_of, header_checks, head_of, row_form, row_size, read_entry}
+use Rattle.rv_rules.specs.Checks.{Check, unless_broken, ◌>>=◌}
 
 -- What a function returned, seen by view, is what reading gives.
-abbrev pub Gives : {X Y : Type 0} → (X → Y) → Result X Refusal → Result Y Refusal → Type 0
-Gives view (Ok x) read = read ≡ Ok (view x)
-Gives view (Err e) read = read ≡ Err e
+abbrev pub IsViewOf : {X Y : Type 0} → (X → Y) → Result X Refusal → Result Y Refusal → Type 0
+IsViewOf view (Ok x) read = read ≡ Ok (view x)
+IsViewOf view (Err e) read = read ≡ Err e
 
 -- the checks of a header's numbers
 abbrev pub number_checks : Header → List Check
 number_checks h =
-    (5, is_in_range 1 65536 h.size)
-    ∷ (6, nat_le 1 h.steps && h.shards == div_ceil h.steps h.size && nat_le h.shards 65536)
-    ∷ (7, nat_le h.end.kind 5 && (h.end.kind == 0 || h.end.code == 0))
-    ∷ (8, nat_le h.length 67108864)
+    (SHARD_SIZE, is_in_range 1 SHARD_SIZE_LIMIT h.size)
+    ∷ (COUNTS, nat_le 1 h.steps && h.shards == div_ceil h.steps h.size && nat_le h.shards SHARDS_LIMIT)
+    ∷ (END_KIND, nat_le h.end.kind MISALIGNED_STORE && (h.end.kind == EXIT || h.end.code == 0))
+    ∷ (OUTPUT_LENGTH, nat_le h.length OUTPUT_LIMIT)
     ∷ []
 
 -- behind row r of shard i
 abbrev pub row_left : ℕ → ℕ → List ℕ → Result (List ℕ) Refusal
-row_left i r bytes = unless_broken i r (row_form bytes) (drop (9 + 21 * slice_index bytes 8) bytes)
+row_left i r bytes = unless_broken i r (row_form bytes) (drop (row_size bytes) bytes)
 
 -- behind n rows from row r on
 unfoldable pub rows_left : ℕ → ℕ → ℕ → List ℕ → Result (List ℕ) Refusal
@@ -38,11 +42,11 @@ rows_left (suc n) i r bytes = do
 -- behind the head of shard i, which has n rows
 abbrev pub head_left : ℕ → ℕ → List ℕ → Result (List ℕ) Refusal
 head_left i n bytes =
-    unless_broken i 0 ((1, nat_le 32 (length bytes)) ∷ (9, (head_of bytes).index == i && (head_of bytes).rows == n) ∷ []) (drop 32 bytes)
+    unless_broken i 0 ((SHORT, nat_le at.HEAD_BYTES (length bytes)) ∷ (SHARD_HEAD, (head_of bytes).index == i && (head_of bytes).rows == n) ∷ []) (drop at.HEAD_BYTES bytes)
 
 -- behind the digests, where the rows had this many bytes
 abbrev pub digests_left : ℕ → ℕ → ShardHead → ℕ → List ℕ → Result (List ℕ) Refusal
-digests_left i n head size bytes = unless_broken i n ((20, size == head.bytes) ∷ (1, nat_le 256 (length bytes)) ∷ []) (drop 256 bytes)
+digests_left i n head size bytes = unless_broken i n ((ROW_BYTES, size == head.bytes) ∷ (SHORT, nat_le at.DIGESTS_BYTES (length bytes)) ∷ []) (drop at.DIGESTS_BYTES bytes)
 
 -- behind shard i
 unfoldable pub shard_left : Header → ℕ → List ℕ → Result (List ℕ) Refusal
@@ -70,7 +74,7 @@ entries_left (suc n) h j before bytes = do
 unfoldable pub form_left : List ℕ → Result (Header × ℕ) Refusal
 form_left file = do
   h ← unless_broken 0 0 (header_checks false tiny_lanes [] [] file) (header_of file)
-  table ← shards_left h.shards h 0 (drop (173 + h.length) file)
-  entries ← unless_broken h.shards 0 ((1, nat_le 4 (length table)) ∷ []) (drop 4 table)
+  table ← shards_left h.shards h 0 (drop (at.HEADER_BYTES + h.length) file)
+  entries ← unless_broken h.shards 0 ((SHORT, nat_le at.COUNT_BYTES (length table)) ∷ []) (drop at.COUNT_BYTES table)
   left ← entries_left (u32_at table 0) h 0 None entries
-  unless_broken h.shards (u32_at table 0) ((27, length left == 0) ∷ []) (h, u32_at table 0)
+  unless_broken h.shards (u32_at table 0) ((TRAILING, length left == 0) ∷ []) (h, u32_at table 0)

@@ -3,13 +3,15 @@
 ghost use Rattle.std.specs.Prelude.{◌≡◌, ◌+◌, ◌≤◌, ◌++◌, length, take, drop, slice_index, ◌==◌, if◌then◌else◌};
 ghost use Rattle.std.specs.Int.{IsInRange};
 ghost use Rattle.rv_spec.specs.Record.{magic, header_bytes};
-ghost use Rattle.rv_spec.specs.Reading.{header_of};
+ghost use Rattle.rv_rules.specs.Reading.{header_of};
 ghost use Rattle.rv_file.specs.Front.{with_numbers, is_record, header_in, front_length};
 
+use rv_base::layout::{
+    CONSUMED_AT, ELF_HASH_AT, END_CODE_AT, END_KIND_AT, HEADER_BYTES, INPUT_HASH_AT,
+    OUTPUT_LENGTH_AT, SHARDS_AT, SIZE_AT, STEPS_AT, VERSION_AT,
+};
+use rv_base::limits::OUTPUT_LIMIT;
 use rv_base::{End, Header, get32, get64, set32, set64};
-
-/// The most bytes of output that a record states.
-pub(crate) const OUTPUT_LIMIT: u64 = 67_108_864;
 
 /// Writes a field of bytes at a place.
 fn set_bytes(bytes: &mut [u8], at: usize, field: &[u8])
@@ -30,36 +32,36 @@ fn set_hash(bytes: &mut [u8], at: usize, hash: &[u8; 64])
 
 /// Writes the magic and the two hashes, 136 bytes.
 fn write_hashes(bytes: &mut [u8], h: &Header)
-    requires long { length bytes.old ≡ 173 }
+    requires long { length bytes.old ≡ HEADER_BYTES }
     requires version { IsInRange 1 2 h.now.version }
-    ensures { take 136 bytes.new ≡ magic h.now.version ++ h.now.elf ++ h.now.input }
+    ensures { take SIZE_AT bytes.new ≡ magic h.now.version ++ h.now.elf ++ h.now.input }
 {
     set_bytes(bytes, 0, b"RV32REC");
-    bytes[7] = b'0' + h.version;
-    set_hash(bytes, 8, &h.elf);
-    set_hash(bytes, 72, &h.input);
+    bytes[VERSION_AT] = b'0' + h.version;
+    set_hash(bytes, ELF_HASH_AT, &h.elf);
+    set_hash(bytes, INPUT_HASH_AT, &h.input);
 }
 
-/// Writes the numbers from byte 136 on.
+/// Writes the numbers behind the hashes.
 fn write_numbers(bytes: &mut [u8], h: &Header)
-    requires { length bytes.old ≡ 173 }
-    ensures { bytes.new ≡ with_numbers (take 136 bytes.old) h.now }
+    requires { length bytes.old ≡ HEADER_BYTES }
+    ensures { bytes.new ≡ with_numbers (take SIZE_AT bytes.old) h.now }
 {
-    set32(bytes, 136, h.size);
-    set64(bytes, 140, h.steps);
-    set32(bytes, 148, h.shards);
-    bytes[152] = h.end.kind;
-    set32(bytes, 153, h.end.code);
-    set64(bytes, 157, h.consumed);
-    set64(bytes, 165, h.length);
+    set32(bytes, SIZE_AT, h.size);
+    set64(bytes, STEPS_AT, h.steps);
+    set32(bytes, SHARDS_AT, h.shards);
+    bytes[END_KIND_AT] = h.end.kind;
+    set32(bytes, END_CODE_AT, h.end.code);
+    set64(bytes, CONSUMED_AT, h.consumed);
+    set64(bytes, OUTPUT_LENGTH_AT, h.length);
 }
 
 /// The header's 173 bytes: `RV32REC` and the version's digit, SHA-512 of the program (64 bytes) and of the input (64), rows a shard (4), steps (8), shards (4), kind (1) and code (4) of the end, bytes of input taken (8), bytes of output (8).
-pub fn write_header(h: &Header) -> [u8; 173]
+pub fn write_header(h: &Header) -> [u8; HEADER_BYTES]
     requires { IsInRange 1 2 h.now.version }
     ensures { result ≡ header_bytes h.now }
 {
-    let mut bytes = [0; 173];
+    let mut bytes = [0; HEADER_BYTES];
     write_hashes(&mut bytes, h);
     write_numbers(&mut bytes, h);
     bytes
@@ -87,34 +89,34 @@ fn hash_at(bytes: &[u8], at: usize) -> [u8; 64]
 /// The version that the eighth byte tells.
 fn version_digit(bytes: &[u8]) -> u8
     requires { 8 ≤ length bytes.now }
-    ensures { result ≡ (if slice_index bytes.now 7 == 0x32 then 2 else 1) }
+    ensures { result ≡ (if slice_index bytes.now VERSION_AT == 0x32 then 2 else 1) }
 {
-    if bytes[7] == b'2' { 2 } else { 1 }
+    if bytes[VERSION_AT] == b'2' { 2 } else { 1 }
 }
 
 /// The fields of a header, unchecked.
 pub(crate) fn header_fields(bytes: &[u8]) -> Header
-    requires { 173 ≤ length bytes.now }
+    requires { HEADER_BYTES ≤ length bytes.now }
     ensures { result ≡ header_of bytes.now }
 {
     Header {
         version: version_digit(bytes),
-        elf: hash_at(bytes, 8),
-        input: hash_at(bytes, 72),
-        size: get32(bytes, 136),
-        steps: get64(bytes, 140),
-        shards: get32(bytes, 148),
+        elf: hash_at(bytes, ELF_HASH_AT),
+        input: hash_at(bytes, INPUT_HASH_AT),
+        size: get32(bytes, SIZE_AT),
+        steps: get64(bytes, STEPS_AT),
+        shards: get32(bytes, SHARDS_AT),
         end: End {
-            kind: bytes[152],
-            code: get32(bytes, 153),
+            kind: bytes[END_KIND_AT],
+            code: get32(bytes, END_CODE_AT),
         },
-        consumed: get64(bytes, 157),
-        length: get64(bytes, 165),
+        consumed: get64(bytes, CONSUMED_AT),
+        length: get64(bytes, OUTPUT_LENGTH_AT),
     }
 }
 
 /// The header that the bytes spell, its fields unchecked. None where the first eight bytes are the magic of no version.
-pub fn read_header(bytes: &[u8; 173]) -> Option<Header>
+pub fn read_header(bytes: &[u8; HEADER_BYTES]) -> Option<Header>
     ensures { result ≡ header_in bytes.now }
 {
     if is_known(bytes) {
@@ -125,13 +127,13 @@ pub fn read_header(bytes: &[u8; 173]) -> Option<Header>
 }
 
 /// How many bytes header and output have: 173 and the stated length of the output, where the magic is right and that length is at most 67,108,864 bytes, else 173.
-pub fn front_len(bytes: &[u8; 173]) -> usize
+pub fn front_len(bytes: &[u8; HEADER_BYTES]) -> usize
     ensures { result ≡ front_length bytes.now }
 {
-    let length = get64(bytes, 165);
+    let length = get64(bytes, OUTPUT_LENGTH_AT);
     if is_known(bytes) && length <= OUTPUT_LIMIT {
-        173 + length as usize
+        HEADER_BYTES + length as usize
     } else {
-        173
+        HEADER_BYTES
     }
 }

@@ -1,7 +1,7 @@
 //! The laws of the grammar.
 
-ghost use Rattle.rv_spec.specs.Form.{NoProperPrefix};
-ghost use Rattle.rv_spec.specs.Verdict.{FormIsGrammar};
+ghost use Rattle.rv_rules.specs.Laws.{NoProperPrefix};
+ghost use Rattle.rv_rules.specs.Laws.{FormIsGrammar};
 
 /// The form of a file is good exactly where some parts spell it, and then these are what is read.
 pub fn form_is_grammar()

@@ -2,39 +2,44 @@
 
 ghost use Rattle.std.specs.Prelude.{◌≡◌, ◌+◌, ◌-◌, ◌≤◌, false, ◌∷◌, [], length, take, drop, bytes_eq, IfOk, MatchResult, Ok, Err, nat_le, option_copied, option_map, slice_get};
 ghost use Rattle.rv_spec.specs.Record.{Parts, magic, shard_bytes};
-ghost use Rattle.rv_spec.specs.Form.{Spells};
-ghost use Rattle.rv_spec.specs.Digest.{tiny_lanes};
-ghost use Rattle.rv_spec.specs.Reading.{header_of, header_checks, head_of, entry_of};
-ghost use Rattle.rv_spec.specs.Checks.{first_broken, unless_broken};
-ghost use Rattle.rv_spec.specs.Verdict.{parse as parse_of};
-ghost use Rattle.rv_file.specs.Skipping.{Gives, number_checks, form_left};
+ghost use Rattle.rv_spec.specs.Grammar.{Spells};
+ghost use Rattle.rv_rules.specs.Sums.{tiny_lanes};
+ghost use Rattle.rv_rules.specs.Reading.{header_of, header_checks, head_of, entry_of};
+ghost use Rattle.rv_rules.specs.Checks.{first_broken, unless_broken};
+ghost use Rattle.rv_rules.specs.Verdict.{parse as parse_of};
+ghost use Rattle.rv_file.specs.Skipping.{IsViewOf, number_checks, form_left};
 ghost use Rattle.rv_file.specs.Parsing.{behind_shards, HoldsShards};
 
-use crate::header::{OUTPUT_LIMIT, header_fields, is_known};
+use crate::header::{header_fields, is_known};
 use crate::heads::head_fields;
 use crate::skipping::{skip_entries, skip_shards};
 use crate::table::entry_fields;
+use rv_base::layout::{COUNT_BYTES, DIGESTS_BYTES, ENTRY_BYTES, HEAD_BYTES, HEADER_BYTES};
+use rv_base::limits::{OUTPUT_LIMIT, SHARD_SIZE_LIMIT, SHARDS_LIMIT};
+use rv_base::machine::{EXIT, MISALIGNED_STORE};
+use rv_base::rules::{COUNTS, END_KIND, MAGIC, OUTPUT_LENGTH, SHARD_SIZE, SHORT, TRAILING};
 use rv_base::{Header, Refusal, TableEntry, get32};
 use std::marker::Model;
 
-/// The most rows of a shard, and the most shards.
-const LIMIT: u32 = 65_536;
+/// The bytes of a shard beside its rows.
+const AROUND_ROWS: usize = HEAD_BYTES + DIGESTS_BYTES;
 
 /// The first rule on a header's numbers that is broken.
 fn broken_number(h: &Header) -> Option<u8>
     ensures { result ≡ first_broken (number_checks h.now) }
 {
-    if h.size < 1 || h.size > LIMIT {
-        return Some(5);
+    if h.size < 1 || h.size > SHARD_SIZE_LIMIT {
+        return Some(SHARD_SIZE);
     }
-    if h.steps < 1 || h.shards as u64 != h.steps.div_ceil(h.size as u64) || h.shards > LIMIT {
-        return Some(6);
+    let shards = h.steps.div_ceil(h.size as u64);
+    if h.steps < 1 || h.shards as u64 != shards || h.shards > SHARDS_LIMIT {
+        return Some(COUNTS);
     }
-    if h.end.kind > 5 || h.end.kind != 0 && h.end.code != 0 {
-        return Some(7);
+    if h.end.kind > MISALIGNED_STORE || h.end.kind != EXIT && h.end.code != 0 {
+        return Some(END_KIND);
     }
     if h.length > OUTPUT_LIMIT {
-        return Some(8);
+        return Some(OUTPUT_LENGTH);
     }
     None
 }
@@ -51,55 +56,47 @@ fn has_magic(file: &[u8]) -> bool
 fn broken_rule(file: &[u8]) -> Option<u8>
     ensures { result ≡ first_broken (header_checks false tiny_lanes [] [] file.now) }
 {
-    if file.len() < 173 {
-        return Some(1);
+    if file.len() < HEADER_BYTES {
+        return Some(SHORT);
     }
     if !has_magic(file) {
-        return Some(2);
+        return Some(MAGIC);
     }
     let header = header_fields(file);
     if let Some(rule) = broken_number(&header) {
         return Some(rule);
     }
-    if ((file.len() - 173) as u64) < header.length {
-        return Some(1);
+    if ((file.len() - HEADER_BYTES) as u64) < header.length {
+        return Some(SHORT);
     }
     None
 }
 
 /// The header of a file, in front of all of its output.
 fn checked_header(file: &[u8]) -> Result<Header, Refusal>
-    ensures exact { Gives (λ h. h) result (unless_broken 0 0 (header_checks false tiny_lanes [] [] file.now) (header_of file.now)) }
-    ensures room { IfOk result (λ h. 173 + h.length ≤ length file.now) }
+    ensures exact { IsViewOf (λ h. h) result (unless_broken 0 0 (header_checks false tiny_lanes [] [] file.now) (header_of file.now)) }
+    ensures room { IfOk result (λ h. HEADER_BYTES + h.length ≤ length file.now) }
 {
     match broken_rule(file) {
-        Some(rule) => Err(Refusal {
-            shard: 0,
-            row: 0,
-            rule,
-        }),
+        Some(rule) => Err(Refusal::at(0, 0, rule)),
         None => Ok(header_fields(file)),
     }
 }
 
 /// The bytes behind the number of the table's entries.
 fn behind_count(shards: u32, bytes: &[u8]) -> Result<&[u8], Refusal>
-    ensures exact { Gives (λ x. x.now) result (unless_broken shards 0 ((1, nat_le 4 (length bytes.now)) ∷ []) (drop 4 bytes.now)) }
-    ensures room { IfOk result (λ _. 4 ≤ length bytes.now) }
+    ensures exact { IsViewOf (λ x. x.now) result (unless_broken shards 0 ((SHORT, nat_le COUNT_BYTES (length bytes.now)) ∷ []) (drop COUNT_BYTES bytes.now)) }
+    ensures room { IfOk result (λ _. COUNT_BYTES ≤ length bytes.now) }
 {
-    if bytes.len() < 4 {
-        return Err(Refusal {
-            shard: shards,
-            row: 0,
-            rule: 1,
-        });
+    if bytes.len() < COUNT_BYTES {
+        return Err(Refusal::at(shards, 0, SHORT));
     }
-    Ok(&bytes[4..])
+    Ok(&bytes[COUNT_BYTES..])
 }
 
 /// The header and the number of the table's entries, of a file of good form.
 fn form(file: &[u8]) -> Result<(Header, u32), Refusal>
-    ensures { Gives (λ x. x) result (form_left file.now) }
+    ensures { IsViewOf (λ x. x) result (form_left file.now) }
 {
     let header = checked_header(file)?;
     let shards = shards_of(file, header.length as usize);
@@ -108,11 +105,7 @@ fn form(file: &[u8]) -> Result<(Header, u32), Refusal>
     let count = get32(table, 0);
     let rest = skip_entries(&header, count, entries)?;
     if !rest.is_empty() {
-        return Err(Refusal {
-            shard: header.shards,
-            row: count,
-            rule: 27,
-        });
+        return Err(Refusal::at(header.shards, count, TRAILING));
     }
     Ok((header, count))
 }
@@ -127,13 +120,13 @@ pub struct Parsed<'a> {
 
 impl<'a> Model for Parsed<'a> {
     ghost use Rattle.rv_spec.specs.Record.{Parts};
-    ghost use Rattle.rv_file.specs.Parsing.{parts_of, Shows};
+    ghost use Rattle.rv_file.specs.Parsing.{parts_of, RepresentsFile};
 
     ghost Value = { Parts };
 
     ghost view = { λ s. parts_of s.file.now };
 
-    ghost invariant = { λ s. Shows s.file.now s.header s.entries };
+    ghost invariant = { λ s. RepresentsFile s.file.now s.header s.entries };
 }
 
 /// The parts of a record file, or the first check of form that is broken: its shard, its row and its rule. One pass, and no memory is taken.
@@ -154,34 +147,34 @@ pub fn parse(file: &[u8]) -> Result<Parsed<'_>, Refusal>
 
 /// The bytes of the output, where it has this length.
 fn output_of(file: &[u8], size: usize) -> &[u8]
-    requires { 173 + size ≤ length file.now }
-    ensures { result.now ≡ take size (drop 173 file.now) }
+    requires { HEADER_BYTES + size ≤ length file.now }
+    ensures { result.now ≡ take size (drop HEADER_BYTES file.now) }
 {
-    &file[173..173 + size]
+    &file[HEADER_BYTES..HEADER_BYTES + size]
 }
 
 /// The bytes from the first shard on, where the output has this length.
 fn shards_of(file: &[u8], size: usize) -> &[u8]
-    requires { 173 + size ≤ length file.now }
-    ensures { result.now ≡ drop (173 + size) file.now }
+    requires { HEADER_BYTES + size ≤ length file.now }
+    ensures { result.now ≡ drop (HEADER_BYTES + size) file.now }
 {
-    &file[173 + size..]
+    &file[HEADER_BYTES + size..]
 }
 
 /// The first shard, of the size that its head states.
 fn first_shard(bytes: &[u8]) -> &[u8]
-    requires { 288 + (head_of bytes.now).bytes ≤ length bytes.now }
-    ensures { result.now ≡ take (288 + (head_of bytes.now).bytes) bytes.now }
+    requires { AROUND_ROWS + (head_of bytes.now).bytes ≤ length bytes.now }
+    ensures { result.now ≡ take (AROUND_ROWS + (head_of bytes.now).bytes) bytes.now }
 {
-    &bytes[..288 + head_fields(bytes).bytes as usize]
+    &bytes[..AROUND_ROWS + head_fields(bytes).bytes as usize]
 }
 
 /// The bytes behind the first shard.
 fn other_shards(bytes: &[u8]) -> &[u8]
-    requires { 288 + (head_of bytes.now).bytes ≤ length bytes.now }
-    ensures { result.now ≡ drop (288 + (head_of bytes.now).bytes) bytes.now }
+    requires { AROUND_ROWS + (head_of bytes.now).bytes ≤ length bytes.now }
+    ensures { result.now ≡ drop (AROUND_ROWS + (head_of bytes.now).bytes) bytes.now }
 {
-    &bytes[288 + head_fields(bytes).bytes as usize..]
+    &bytes[AROUND_ROWS + head_fields(bytes).bytes as usize..]
 }
 
 /// Goes over this many shards, by the sizes that their heads state.
@@ -198,7 +191,7 @@ fn behind(bytes: &[u8], shards: u32) -> &[u8]
 
 /// The entry that begins this many bytes before the end.
 fn entry_before_end(file: &[u8], behind: usize) -> TableEntry
-    requires there { 16 ≤ behind }
+    requires there { ENTRY_BYTES ≤ behind }
     requires within { behind ≤ length file.now }
     ensures { result ≡ entry_of (drop (length file.now - behind) file.now) }
 {
@@ -239,7 +232,7 @@ impl<'a> Parsed<'a> {
         if j >= self.entries {
             return None;
         }
-        let behind = 16 * (self.entries - j) as usize;
+        let behind = ENTRY_BYTES * (self.entries - j) as usize;
         Some(entry_before_end(self.file, behind))
     }
 

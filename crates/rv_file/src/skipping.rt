@@ -3,40 +3,32 @@
 ghost use Rattle.std.specs.Prelude.{◌≡◌, ◌+◌, ◌-◌, ◌*◌, ◌≤◌, ◌<◌, ◌^◌, length, IfOk, None};
 ghost use Rattle.rv_spec.specs.Cells.{is_cell as is_cell_of};
 ghost use Rattle.rv_spec.specs.Record.{shard_rows};
-ghost use Rattle.rv_spec.specs.Reading.{above, read_entry};
-ghost use Rattle.rv_file.specs.Skipping.{Gives, row_left, rows_left, head_left, digests_left, shard_left, shards_left, entries_left};
+ghost use Rattle.rv_rules.specs.Reading.{above, read_entry};
+ghost use Rattle.rv_file.specs.Skipping.{IsViewOf, row_left, rows_left, head_left, digests_left, shard_left, shards_left, entries_left};
 
 use crate::heads::head_fields;
 use crate::table::entry_fields;
+use rv_base::cells::{REGISTER_CELLS, RESERVATION_CELL};
+use rv_base::layout::{DIGESTS_BYTES, ENTRY_BYTES, HEAD_BYTES};
+use rv_base::rules::{
+    ROW_BYTES, ROW_SHAPE, SHARD_HEAD, SHORT, TABLE_CELL, TABLE_ORDER, TABLE_TIME,
+};
 use rv_base::{Header, Refusal, ShardHead, TableEntry};
 use rv_row::{RowRead, read_row};
 
-/// The cell of the first register, x0, which no access uses.
-const REGISTERS: u32 = 1 << 30;
-/// The cell of the reservation, which version 2 alone has.
-const RESERVATION: u32 = REGISTERS + 32;
-
 fn skip_row(shard: u32, row: u32, bytes: &[u8]) -> Result<&[u8], Refusal>
-    ensures exact { Gives (λ x. x.now) result (row_left shard row bytes.now) }
+    ensures exact { IsViewOf (λ x. x.now) result (row_left shard row bytes.now) }
     ensures within { IfOk result (λ x. length x.now ≤ length bytes.now) }
 {
     match read_row(bytes) {
         RowRead::Row(_, length) => Ok(&bytes[length..]),
-        RowRead::Short => Err(Refusal {
-            shard,
-            row,
-            rule: 1,
-        }),
-        RowRead::Shape => Err(Refusal {
-            shard,
-            row,
-            rule: 10,
-        }),
+        RowRead::Short => Err(Refusal::at(shard, row, SHORT)),
+        RowRead::Shape => Err(Refusal::at(shard, row, ROW_SHAPE)),
     }
 }
 
 fn skip_rows(shard: u32, rows: u32, bytes: &[u8]) -> Result<&[u8], Refusal>
-    ensures exact { Gives (λ x. x.now) result (rows_left rows shard 0 bytes.now) }
+    ensures exact { IsViewOf (λ x. x.now) result (rows_left rows shard 0 bytes.now) }
     ensures within { IfOk result (λ x. length x.now ≤ length bytes.now) }
 {
     let mut rest = bytes;
@@ -55,24 +47,16 @@ fn rows_of(h: &Header, shard: u32) -> u32
 }
 
 fn skip_head(shard: u32, rows: u32, bytes: &[u8]) -> Result<&[u8], Refusal>
-    ensures { Gives (λ x. x.now) result (head_left shard rows bytes.now) }
+    ensures { IsViewOf (λ x. x.now) result (head_left shard rows bytes.now) }
 {
-    if bytes.len() < 32 {
-        return Err(Refusal {
-            shard,
-            row: 0,
-            rule: 1,
-        });
+    if bytes.len() < HEAD_BYTES {
+        return Err(Refusal::at(shard, 0, SHORT));
     }
     let head = head_fields(bytes);
     if head.index != shard || head.rows != rows {
-        return Err(Refusal {
-            shard,
-            row: 0,
-            rule: 9,
-        });
+        return Err(Refusal::at(shard, 0, SHARD_HEAD));
     }
-    Ok(&bytes[32..])
+    Ok(&bytes[HEAD_BYTES..])
 }
 
 /// Goes over the two digests, where the rows before them had this many bytes.
@@ -83,28 +67,20 @@ fn skip_digests<'a>(
     size: usize,
     bytes: &'a [u8],
 ) -> Result<&'a [u8], Refusal>
-    ensures { Gives (λ x. x.now) result (digests_left shard rows head.now size bytes.now) }
+    ensures { IsViewOf (λ x. x.now) result (digests_left shard rows head.now size bytes.now) }
 {
     if size != head.bytes as usize {
-        return Err(Refusal {
-            shard,
-            row: rows,
-            rule: 20,
-        });
+        return Err(Refusal::at(shard, rows, ROW_BYTES));
     }
-    if bytes.len() < 256 {
-        return Err(Refusal {
-            shard,
-            row: rows,
-            rule: 1,
-        });
+    if bytes.len() < DIGESTS_BYTES {
+        return Err(Refusal::at(shard, rows, SHORT));
     }
-    Ok(&bytes[256..])
+    Ok(&bytes[DIGESTS_BYTES..])
 }
 
 #[tactic(auto, unfolding(crate::specs::Skipping::shard_left))]
 fn skip_shard<'a>(h: &Header, shard: u32, bytes: &'a [u8]) -> Result<&'a [u8], Refusal>
-    ensures { Gives (λ x. x.now) result (shard_left h.now shard bytes.now) }
+    ensures { IsViewOf (λ x. x.now) result (shard_left h.now shard bytes.now) }
 {
     let rows = rows_of(h, shard);
     let behind_head = skip_head(shard, rows, bytes)?;
@@ -115,7 +91,7 @@ fn skip_shard<'a>(h: &Header, shard: u32, bytes: &'a [u8]) -> Result<&'a [u8], R
 
 /// Goes over all shards.
 pub(crate) fn skip_shards<'a>(h: &Header, bytes: &'a [u8]) -> Result<&'a [u8], Refusal>
-    ensures { Gives (λ x. x.now) result (shards_left h.now.shards h.now 0 bytes.now) }
+    ensures { IsViewOf (λ x. x.now) result (shards_left h.now.shards h.now 0 bytes.now) }
 {
     let mut rest = bytes;
     for shard in 0..h.shards {
@@ -128,9 +104,9 @@ pub(crate) fn skip_shards<'a>(h: &Header, bytes: &'a [u8]) -> Result<&'a [u8], R
 fn is_cell(version: u8, cell: u32) -> bool
     ensures { result ≡ is_cell_of version cell }
 {
-    cell < REGISTERS
-        || REGISTERS < cell && cell < RESERVATION
-        || version == 2 && cell == RESERVATION
+    cell < REGISTER_CELLS
+        || REGISTER_CELLS < cell && cell < RESERVATION_CELL
+        || version == 2 && cell == RESERVATION_CELL
 }
 
 /// Whether a cell is greater than that of the entry before, if there is one.
@@ -149,32 +125,27 @@ fn entry<'a>(
     before: Option<u32>,
     bytes: &'a [u8],
 ) -> Result<(TableEntry, &'a [u8]), Refusal>
-    ensures { Gives (λ x. (x.0, x.1.now)) result (read_entry h.now j before bytes.now) }
+    ensures { IsViewOf (λ x. (x.0, x.1.now)) result (read_entry h.now j before bytes.now) }
 {
-    let refused = |rule| Refusal {
-        shard: h.shards,
-        row: j,
-        rule,
-    };
-    if bytes.len() < 16 {
-        return Err(refused(1));
+    if bytes.len() < ENTRY_BYTES {
+        return Err(Refusal::at(h.shards, j, SHORT));
     }
     let entry = entry_fields(bytes);
     if !is_above(before, entry.cell) {
-        return Err(refused(22));
+        return Err(Refusal::at(h.shards, j, TABLE_ORDER));
     }
     if !is_cell(h.version, entry.cell) {
-        return Err(refused(23));
+        return Err(Refusal::at(h.shards, j, TABLE_CELL));
     }
     if entry.time == 0 {
-        return Err(refused(24));
+        return Err(Refusal::at(h.shards, j, TABLE_TIME));
     }
-    Ok((entry, &bytes[16..]))
+    Ok((entry, &bytes[ENTRY_BYTES..]))
 }
 
 /// Goes over the entries of the table.
 pub(crate) fn skip_entries<'a>(h: &Header, count: u32, bytes: &'a [u8]) -> Result<&'a [u8], Refusal>
-    ensures { Gives (λ x. x.now) result (entries_left count h.now 0 None bytes.now) }
+    ensures { IsViewOf (λ x. x.now) result (entries_left count h.now 0 None bytes.now) }
 {
     let mut rest = bytes;
     let mut before = None;

@@ -1,3 +1,4 @@
+pub mod Lemmas
 pub mod CallLaws
 pub mod FileLaws
 pub mod FileMapLaws

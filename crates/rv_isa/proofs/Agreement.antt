@@ -9,18 +9,18 @@ use Rattle.rv_base.specs.declared.record.Tuple.{Tuple}
 use Rattle.rv_base.specs.declared.instr.Instr.{Instr}
 use Rattle.rv_base.specs.declared.instr.Instr.TheVariants.{Lui, Auipc, Jal, Jalr, Branch, Load, Store, OpImm, Op, Fence, Ecall, Ebreak}
 use Rattle.rv_spec.specs.Decode.{AnyInstr, rv32im, rv32a, decode_any}
-use Rattle.rv_spec.specs.Step.{State, Turn, Next, Ends, fetch_word, execute, execute_if, step}
+use Rattle.rv_spec.specs.Step.{State, Transition, Next, Ends, fetch_word, execute, execute_if, step}
 use Rattle.rv_spec.specs.Run.{next_state}
 use Rattle.rv_spec.specs.Cells.{value}
-use Rattle.rv_spec.specs.Touches.{Use, use_of, uses, instruction_uses, step_uses, visit, touches}
+use Rattle.rv_spec.specs.Visits.{Use, use_of, uses, instruction_uses, step_uses, visit, visits}
 use Rattle.rv_spec.specs.Trace.{access}
-use Rattle.rv_spec.specs.Expected.{Expected, touch, pc_plus_4, expected_instr, expected_any, expected}
-use Rattle.rv_spec.specs.RowRules.{seen}
-use Rattle.rv_spec.specs.Agreement.{IsState, GoesAs, touch_of, StepsAgree}
-use Rattle.rv_spec.proofs.OldValues.{seen-in}
-use Rattle.rv_spec.proofs.Members.{all-of, all-in}
-use Rattle.rv_spec.proofs.MemoryLaws.{word-aligned}
-use Rattle.rv_isa.proofs.Uses.{in_slot, Sees, Follows, made, goes-on}
+use Rattle.rv_rules.specs.Expected.{Expected, touch, pc_plus_4, expected_instr, expected_any, expected}
+use Rattle.rv_rules.specs.RowRules.{seen}
+use Rattle.rv_rules.specs.Agreement.{IsState, GoesAs, touch_of, StepsAgree}
+use Rattle.rv_rules.proofs.Lemmas.{seen-in}
+use Rattle.rv_rules.proofs.Lemmas.{all-of, all-in}
+use Rattle.rv_rules.proofs.Lemmas.{word-aligned}
+use Rattle.rv_isa.proofs.Uses.{seen_in, Sees, Follows, made, goes-on}
 use Rattle.rv_isa.proofs.Operations.{lui-follows, auipc-follows, imm-follows, op-follows}
 use Rattle.rv_isa.proofs.Jumps.{jal-follows, jalr-follows, branch-follows}
 use Rattle.rv_isa.proofs.Loads.{value-word, load-follows}
@@ -53,7 +53,7 @@ any-follows input s v (Some (rv32im i)) f is sees = instruction-follows input s 
 any-follows input s v (Some (rv32a i)) f is sees = atomic-follows s v i f.0 f.1 f.2 is sees
 
 -- the accesses say nothing of where the step goes
-goes-with : (e : Expected) (ts : List Touch) (s : State) (turn : Turn) → GoesAs e s turn → GoesAs (record e { touches = ts }) s turn
+goes-with : (e : Expected) (ts : List Touch) (s : State) (turn : Transition) → GoesAs e s turn → GoesAs (record e { touches = ts }) s turn
 goes-with e ts s (Next t) h = h
 goes-with e ts s (Ends f) h = h
 
@@ -61,15 +61,15 @@ goes-with e ts s (Ends f) h = h
 row-sees : (before : List Tuple) (k : ℕ) (s t : State) (us : List Use) → Rises 1 9 us → Sees (seen (map (access before k) (map (visit s t) us))) s us
 row-sees before k s t us rise =
     let accesses : List Access = map (access before k) (map (visit s t) us) in
-    all-of (λ u. in_slot (seen accesses) u.slot ≡ value s u.cell) us
+    all-of (λ u. seen_in (seen accesses) u.slot ≡ value s u.cell) us
     (λ u m.
     let bounds : (1 ≤ u.slot) × (u.slot < 9) = all-in (λ u. (1 ≤ u.slot) × (u.slot < 9)) us (all-within 1 9 us rise) u m in
     slot-seen accesses u.slot bounds.0 bounds.1 ∙ seen-in before k s t us (slots-differ 1 9 us rise) u m)
 
 -- any old values that are the state's where the step uses them give the machine's step
 pub expected-follows : (input : List ℕ) (s : State) (v : Seen) → IsState s → Sees v s (step_uses input s)
-    → ((expected s.version s.pc v input s.position).touches ≡ map touch_of (touches input s)) × GoesAs (expected s.version s.pc v input s.position) s (step input s)
-unfolding expected step touches step_uses
+    → ((expected s.version s.pc v input s.position).touches ≡ map touch_of (visits input s)) × GoesAs (expected s.version s.pc v input s.position) s (step input s)
+unfolding expected step visits step_uses
 expected-follows input s v is sees =
     let o : Option AnyInstr = decode_any s.version (fetch_word s) in
     let us : List Use = instruction_uses input o s in
@@ -85,7 +85,7 @@ expected-follows input s v is sees =
     (accesses ∙ sym (map-map touch_of (visit s t) all), goes-with e (touch 1 (s.pc / 4) v.s1 ++ e.touches) s (step input s) follows.1)
 
 pub steps-agree : StepsAgree
-unfolding touches step_uses
+unfolding visits step_uses
 steps-agree input s before k is within =
     let us : List Use = step_uses input s in
     let t : State = next_state input s in

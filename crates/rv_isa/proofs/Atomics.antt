@@ -8,12 +8,12 @@ use Rattle.rv_base.specs.declared.instr.AtomicOp.TheVariants as amo
 use Rattle.rv_base.specs.declared.instr.Atomic.{Atomic}
 use Rattle.rv_spec.specs.Words.{Memory, word}
 use Rattle.rv_spec.specs.Arithmetic.{amo_result}
-use Rattle.rv_spec.specs.Step.{State, Turn, register, with_register, with_memory, store_word, load_value, advance, stops, fetch_and, load_reserved, atomic_at, execute_atomic}
+use Rattle.rv_spec.specs.Step.{State, Transition, register, with_register, with_memory, store_word, load_value, advance, stops, fetch_and, load_reserved, atomic_at, execute_atomic}
 use Rattle.rv_spec.specs.Cells.{reservation_cell, value}
-use Rattle.rv_spec.specs.Touches.{Use, use_of, use_register, where_aligned, aligned_atomic_uses, atomic_uses}
-use Rattle.rv_spec.specs.Expected.{Expected, touch, on_register, reads_two, moves, pc_plus_4, atomic_writes, misaligned_kind, expected_atomic}
-use Rattle.rv_spec.specs.Agreement.{IsState}
-use Rattle.rv_spec.proofs.MemoryLaws.{word-aligned}
+use Rattle.rv_spec.specs.Visits.{Use, use_of, use_register, where_aligned, aligned_atomic_uses, atomic_uses}
+use Rattle.rv_rules.specs.Expected.{Expected, touch, on_register, reads_two, moves, pc_plus_4, atomic_writes, misaligned_kind, expected_atomic}
+use Rattle.rv_rules.specs.Agreement.{IsState}
+use Rattle.rv_rules.proofs.Lemmas.{word-aligned}
 use Rattle.rv_isa.proofs.Uses.{Sees, Follows, made, sees-left, sees-right, joined, goes-on, aligned-follows}
 use Rattle.rv_isa.proofs.Registers.{reads-two, operand-first, operand-second, writes-register, register-with}
 use Rattle.rv_isa.proofs.Loads.{word-seen, word-made}
@@ -59,7 +59,7 @@ sc_uses rd a reserved = cond reserved (use_of 6 (a / 4)) [] ++ use_register 7 rd
 abbrev sc_writes : ℕ → ℕ → ℕ → Bool → List Touch
 sc_writes rd a b reserved = cond reserved (touch 6 (a / 4) b) [] ++ on_register 7 rd (cond reserved 0 1) ++ touch 8 reservation_cell 0
 
-abbrev sc_turn : ℕ → ℕ → ℕ → State → Bool → Turn
+abbrev sc_turn : ℕ → ℕ → ℕ → State → Bool → Transition
 sc_turn rd a b s reserved =
     cond reserved (advance (record (with_register rd 0 (with_memory (store_word s.memory a b) s)) { reservation = 0 })) (advance (record (with_register rd 1 s) { reservation = 0 }))
 

@@ -7,11 +7,11 @@ use Rattle.rv_base.specs.declared.record.Seen.{Seen}
 use Rattle.rv_base.specs.declared.instr.Instr.TheVariants.{Ecall}
 use Rattle.rv_spec.specs.Words.{Memory, byte, bytes_from, store_bytes, word}
 use Rattle.rv_spec.specs.Step.{State, register, with_register, within_word, exits, return_in_a0, read_call, write_call, environment_call, execute}
-use Rattle.rv_spec.specs.Touches.{Use, use_of, use_register, use_buffer, argument_uses, call_uses, uses}
+use Rattle.rv_spec.specs.Visits.{Use, use_of, use_register, use_buffer, argument_uses, call_uses, uses}
 use Rattle.rv_spec.specs.Cells.{register_cell}
-use Rattle.rv_spec.specs.Expected.{Expected, touch, on_register, on_buffer, splice, argument_touches, ends, pc_plus_4, expected_return, expected_read, expected_write, expected_call, expected_instr}
-use Rattle.rv_spec.specs.Agreement.{IsState}
-use Rattle.rv_spec.proofs.MemoryLaws.{word-stored}
+use Rattle.rv_rules.specs.Expected.{Expected, touch, on_register, on_buffer, splice, argument_touches, ends, pc_plus_4, expected_return, expected_read, expected_write, expected_call, expected_instr}
+use Rattle.rv_rules.specs.Agreement.{IsState}
+use Rattle.rv_rules.proofs.Lemmas.{word-stored}
 use Rattle.rv_isa.proofs.Uses.{Sees, Follows, made, sees-left, sees-right, joined}
 use Rattle.rv_isa.proofs.Registers.{value-register, reads-register, reads-two, operand-second, writes-register, register-with}
 use Rattle.rv_isa.proofs.Operations.{sets-follows}

@@ -8,26 +8,26 @@ use Rattle.rv_spec.specs.Elf.{Image}
 use Rattle.rv_spec.specs.Words.{word}
 use Rattle.rv_spec.specs.Step.{start, register}
 use Rattle.rv_spec.specs.Cells.{value, initial_value, reservation_cell}
-use Rattle.rv_spec.proofs.MemoryLaws.{found-insert}
+use Rattle.rv_rules.proofs.Lemmas.{found-insert}
 use Rattle.rv_elf.specs.Loaded.{loaded}
-use Rattle.rv_isa.specs.Kept.{cell_of}
-use Rattle.rv_isa.specs.Cells.{IsRegister}
+use Rattle.rv_isa.specs.MachineState.{stored_value}
+use Rattle.rv_isa.specs.Cells.{IsRegisterCell}
 
 -- ---- words and registers
 
-pub cell-word : (i : Image) (es : List (ℕ × ℕ)) (rs : List ℕ) (c : ℕ) → c < 2 ^ 30 → cell_of i es rs c ≡ unwrap_or (lookup (is_at (nat_cmp c)) es) (initial_value i c)
-unfolding cell_of
+pub cell-word : (i : Image) (es : List (ℕ × ℕ)) (rs : List ℕ) (c : ℕ) → c < 2 ^ 30 → stored_value i es rs c ≡ unwrap_or (lookup (is_at (nat_cmp c)) es) (initial_value i c)
+unfolding stored_value
 cell-word i es rs c low = ap (λ b. cond b (unwrap_or (lookup (is_at (nat_cmp c)) es) (initial_value i c)) (slice_index rs (c - 2 ^ 30))) (lt-ltb c (2 ^ 30) low)
 
-pub cell-register : (i : Image) (es : List (ℕ × ℕ)) (rs : List ℕ) (k : ℕ) → cell_of i es rs (2 ^ 30 + k) ≡ slice_index rs k
-unfolding cell_of
+pub cell-register : (i : Image) (es : List (ℕ × ℕ)) (rs : List ℕ) (k : ℕ) → stored_value i es rs (2 ^ 30 + k) ≡ slice_index rs k
+unfolding stored_value
 cell-register i es rs k =
     ap (λ b. cond b (unwrap_or (lookup (is_at (nat_cmp (2 ^ 30 + k))) es) (initial_value i (2 ^ 30 + k))) (slice_index rs (2 ^ 30 + k - 2 ^ 30))) (le-ltb (2 ^ 30 + k) (2 ^ 30) (omega arith))
     ∙ ap (slice_index rs) (let e : 2 ^ 30 + k - 2 ^ 30 ≡ k = omega arith in e)
 
 -- a cell from x0 on, by its number
-cell-above : (i : Image) (es : List (ℕ × ℕ)) (rs : List ℕ) (c : ℕ) → 2 ^ 30 ≤ c → cell_of i es rs c ≡ slice_index rs (c - 2 ^ 30)
-cell-above i es rs c high = ap (cell_of i es rs) (let e : c ≡ 2 ^ 30 + (c - 2 ^ 30) = omega arith in e) ∙ cell-register i es rs (c - 2 ^ 30)
+cell-above : (i : Image) (es : List (ℕ × ℕ)) (rs : List ℕ) (c : ℕ) → 2 ^ 30 ≤ c → stored_value i es rs c ≡ slice_index rs (c - 2 ^ 30)
+cell-above i es rs c high = ap (stored_value i es rs) (let e : c ≡ 2 ^ 30 + (c - 2 ^ 30) = omega arith in e) ∙ cell-register i es rs (c - 2 ^ 30)
 
 -- the image's word is what the cell holds before the first step
 pub image-word : (i : Image) (w : ℕ) → w < 2 ^ 30 → word (loaded i) w ≡ initial_value i w
@@ -36,30 +36,30 @@ image-word i w low = sym (ap (λ b. cond b (word (start i).memory w) (cond (w ==
 
 -- ---- a cell is set
 
-pub word-set : (i : Image) (es : List (ℕ × ℕ)) (rs : List ℕ) (w v c : ℕ) → w < 2 ^ 30 → cell_of i (insert_entry nat_cmp es w v) rs c ≡ cond (c == w) v (cell_of i es rs c)
+pub word-set : (i : Image) (es : List (ℕ × ℕ)) (rs : List ℕ) (w v c : ℕ) → w < 2 ^ 30 → stored_value i (insert_entry nat_cmp es w v) rs c ≡ cond (c == w) v (stored_value i es rs c)
 word-set i es rs w v c low = go (cases_lt c (2 ^ 30))
   where
     pushed : (b : Bool) (o : Option ℕ) (d : ℕ) → unwrap_or (cond b (Some v) o) d ≡ cond b v (unwrap_or o d)
     pushed true o d = refl
     pushed false o d = refl
 
-    go : (c < 2 ^ 30) ⊎ (2 ^ 30 ≤ c) → cell_of i (insert_entry nat_cmp es w v) rs c ≡ cond (c == w) v (cell_of i es rs c)
+    go : (c < 2 ^ 30) ⊎ (2 ^ 30 ≤ c) → stored_value i (insert_entry nat_cmp es w v) rs c ≡ cond (c == w) v (stored_value i es rs c)
     go (inl below) =
         cell-word i (insert_entry nat_cmp es w v) rs c below ∙ ap (λ o. unwrap_or o (initial_value i c)) (found-insert es w v c)
         ∙ pushed (c == w) (lookup (is_at (nat_cmp c)) es) (initial_value i c) ∙ ap (cond (c == w) v) (sym (cell-word i es rs c below))
     go (inr above) =
         cell-above i (insert_entry nat_cmp es w v) rs c above ∙ sym (cell-above i es rs c above)
-        ∙ ap (λ b. cond b v (cell_of i es rs c)) (sym (ne_eqb c w (λ e. absurd (omega arith))))
+        ∙ ap (λ b. cond b v (stored_value i es rs c)) (sym (ne_eqb c w (λ e. absurd (omega arith))))
 
-pub register-set : (i : Image) (es : List (ℕ × ℕ)) (rs : List ℕ) (cell v c : ℕ) → IsRegister cell → length rs ≡ 33 → cell_of i es (set rs (cell - 2 ^ 30) v) c ≡ cond (c == cell) v (cell_of i es rs c)
+pub register-set : (i : Image) (es : List (ℕ × ℕ)) (rs : List ℕ) (cell v c : ℕ) → IsRegisterCell cell → length rs ≡ 33 → stored_value i es (set rs (cell - 2 ^ 30) v) c ≡ cond (c == cell) v (stored_value i es rs c)
 register-set i es rs cell v c is full = go (cases_lt c (2 ^ 30)) (c == cell) refl
   where
-    go : (c < 2 ^ 30) ⊎ (2 ^ 30 ≤ c) → (b : Bool) → (c == cell) ≡ b → cell_of i es (set rs (cell - 2 ^ 30) v) c ≡ cond b v (cell_of i es rs c)
+    go : (c < 2 ^ 30) ⊎ (2 ^ 30 ≤ c) → (b : Bool) → (c == cell) ≡ b → stored_value i es (set rs (cell - 2 ^ 30) v) c ≡ cond b v (stored_value i es rs c)
     go (inl below) true e = let same : c ≡ cell = eqb-true c cell e in absurd (omega (arith, is.0))
     go (inl below) false e = cell-word i es (set rs (cell - 2 ^ 30) v) c below ∙ sym (cell-word i es rs c below)
     go (inr above) true e =
         let same : c ≡ cell = eqb-true c cell e in
-        ap (cell_of i es (set rs (cell - 2 ^ 30) v)) same ∙ cell-above i es (set rs (cell - 2 ^ 30) v) cell is.0
+        ap (stored_value i es (set rs (cell - 2 ^ 30) v)) same ∙ cell-above i es (set rs (cell - 2 ^ 30) v) cell is.0
         ∙ get_or-set_same rs (cell - 2 ^ 30) v 0 (omega (arith, is.1, full))
     go (inr above) false e =
         let other : c ≢ cell = eqb-false c cell e in
@@ -93,10 +93,10 @@ first-register i r =
         ∙ ap (λ j. get_or (start i).registers j 0) (let j : suc (suc k) ≡ suc (suc (suc k)) - 1 = omega arith in j)
         ∙ ap (λ b. cond b 0 (get_or (start i).registers (suc (suc (suc k)) - 1) 0)) (sym (ne_eqb (suc (suc (suc k))) 0 (λ e. absurd (omega arith))))
 
-pub first-cell : (i : Image) (c : ℕ) → cell_of i [] first_registers c ≡ initial_value i c
+pub first-cell : (i : Image) (c : ℕ) → stored_value i [] first_registers c ≡ initial_value i c
 first-cell i c = go (cases_lt c (2 ^ 30))
   where
-    go : (c < 2 ^ 30) ⊎ (2 ^ 30 ≤ c) → cell_of i [] first_registers c ≡ initial_value i c
+    go : (c < 2 ^ 30) ⊎ (2 ^ 30 ≤ c) → stored_value i [] first_registers c ≡ initial_value i c
     go (inl below) = cell-word i [] first_registers c below
     go (inr above) =
         cell-above i [] first_registers c above ∙ first-register i (c - 2 ^ 30)

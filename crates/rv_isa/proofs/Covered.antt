@@ -4,9 +4,9 @@ use Rattle.std.specs.List.{AllByRecursion}
 use Rattle.rv_spec.specs.Words.{plus}
 use Rattle.rv_spec.specs.Step.{State, register}
 use Rattle.rv_spec.specs.Cells.{register_cell}
-use Rattle.rv_spec.specs.Touches.{Use, use_of, use_register}
+use Rattle.rv_spec.specs.Visits.{Use, use_of, use_register}
 use Rattle.rv_isa.specs.declared.operands.Operands.{Operands}
-use Rattle.rv_spec.specs.Agreement.{IsState}
+use Rattle.rv_rules.specs.Agreement.{IsState}
 use Rattle.rv_isa.specs.Operands.{cell_in, IsCovered}
 use Rattle.rv_isa.proofs.WordRanges.{register-fits}
 

@@ -14,10 +14,10 @@ use Rattle.rv_spec.specs.Arithmetic.{compute, taken, amo_result}
 use Rattle.rv_spec.specs.Decode.{AnyInstr, rv32im, rv32a, decode_any}
 use Rattle.rv_spec.specs.Step.{State, register, load_width, store_width, within_word, fetch_word}
 use Rattle.rv_spec.specs.Cells.{register_cell, reservation_cell, value}
-use Rattle.rv_spec.specs.Touches.{Use, use_of, use_register, use_buffer, argument_uses, call_uses, uses, aligned_atomic_uses, atomic_uses, instruction_uses, step_uses}
-use Rattle.rv_spec.specs.Expected.{Expected, touch, on_register, on_buffer, splice, merge, extract, operand, reads_one, reads_two, goes_to, ends, pc_plus_4, jumps, moves, argument_touches, expected_return, expected_read, expected_write, expected_call, expected_instr, atomic_writes, misaligned_kind, expected_atomic, expected_any, expected}
-use Rattle.rv_spec.specs.Agreement.{IsState}
-use Rattle.rv_spec.proofs.MemoryLaws.{word-aligned}
+use Rattle.rv_spec.specs.Visits.{Use, use_of, use_register, use_buffer, argument_uses, call_uses, uses, aligned_atomic_uses, atomic_uses, instruction_uses, step_uses}
+use Rattle.rv_rules.specs.Expected.{Expected, touch, on_register, on_buffer, splice, merge, extract, operand, reads_one, reads_two, goes_to, ends, pc_plus_4, jumps, moves, argument_touches, expected_return, expected_read, expected_write, expected_call, expected_instr, atomic_writes, misaligned_kind, expected_atomic, expected_any, expected}
+use Rattle.rv_rules.specs.Agreement.{IsState}
+use Rattle.rv_rules.proofs.Lemmas.{word-aligned}
 use Rattle.rv_isa.proofs.Agreement.{expected-follows}
 use Rattle.rv_isa.specs.Sees.{Sees}
 use Rattle.rv_isa.specs.Follows.{SeesTouches, SeenStepsFollow}

@@ -15,8 +15,8 @@ use Rattle.rv_spec.specs.Arithmetic.{compute, taken, amo_result}
 use Rattle.rv_spec.specs.Decode.{AnyInstr, rv32im, rv32a, decode_any}
 use Rattle.rv_spec.specs.Step.{load_width, store_width, within_word}
 use Rattle.rv_spec.specs.Cells.{register_cell, reservation_cell}
-use Rattle.rv_spec.specs.Expected.{touch, on_register, on_buffer, splice, merge, extract, operand, reads_one, reads_two, goes_to, ends, pc_plus_4, jumps, argument_touches, expected_return, expected_read, expected_write, expected_call, expected_instr, atomic_writes, misaligned_kind, expected_atomic, expected_any, expected}
-use Rattle.rv_isa.specs.Sees.{in_slot}
+use Rattle.rv_rules.specs.Expected.{touch, on_register, on_buffer, splice, merge, extract, operand, reads_one, reads_two, goes_to, ends, pc_plus_4, jumps, argument_touches, expected_return, expected_read, expected_write, expected_call, expected_instr, atomic_writes, misaligned_kind, expected_atomic, expected_any, expected}
+use Rattle.rv_isa.specs.Sees.{seen_in}
 use Rattle.rv_isa.specs.Shape.{AreShaped}
 use Rattle.rv_isa.proofs.Fields.{HasFields, HasAnyFields, any-decoded}
 
@@ -36,15 +36,15 @@ module _ (v : Seen) where
   abbrev Within : ℕ → ℕ → ℕ → Type 0
   Within lo j hi = (lo ≤ j) × (j < hi)
 
-  read : (lo hi j cell : ℕ) → Within lo j hi → j ≤ 5 → AreShaped v lo hi (touch j cell (in_slot v j))
+  read : (lo hi j cell : ℕ) → Within lo j hi → j ≤ 5 → AreShaped v lo hi (touch j cell (seen_in v j))
   read lo hi j cell h low = (
     h.0,
     record { keeps = λ k. refl; word = λ e. absurd (omega arith); register = λ e. absurd (omega arith); reservation = λ e. absurd (omega arith) },
     omega (arith, h.1),
   )
 
-  read-register : (lo hi j r : ℕ) → Within lo j hi → j ≤ 5 → AreShaped v lo hi (on_register j r (in_slot v j))
-  read-register lo hi j r h low = chosen lo hi (r == 0) [] (touch j (register_cell r) (in_slot v j)) (omega (arith, h.0, h.1)) (read lo hi j (register_cell r) h low)
+  read-register : (lo hi j r : ℕ) → Within lo j hi → j ≤ 5 → AreShaped v lo hi (on_register j r (seen_in v j))
+  read-register lo hi j r h low = chosen lo hi (r == 0) [] (touch j (register_cell r) (seen_in v j)) (omega (arith, h.0, h.1)) (read lo hi j (register_cell r) h low)
 
   of-two : (q r : ℕ) → AreShaped v 2 6 (reads_two q r v)
   of-two q r = joined 2 3 6 (on_register 2 q v.s2) (on_register 3 r v.s3) (read-register 2 3 2 q (omega arith, omega arith) (omega arith)) (read-register 3 6 3 r (omega arith, omega arith) (omega arith))

@@ -13,10 +13,10 @@ use Rattle.rv_base.specs.declared.instr.StoreKind.{StoreKind}
 use Rattle.rv_spec.specs.Words.{Memory, byte, word, store_bytes, bytes_from, plus}
 use Rattle.rv_spec.specs.Decode.{AnyInstr, rv32im, rv32a, decode_any}
 use Rattle.rv_spec.specs.Arithmetic.{compute, taken, amo_result}
-use Rattle.rv_spec.specs.Step.{State, Turn, Next, Ends, register, with_register, with_memory, advance, jump, exits, stops, load_width, store_width, load_value, store_value, store_word, within_word, return_in_a0, read_call, write_call, environment_call, execute, execute_atomic, atomic_at, load_reserved, store_conditional, fetch_and, execute_if, fetch_word, step}
+use Rattle.rv_spec.specs.Step.{State, Transition, Next, Ends, register, with_register, with_memory, advance, jump, exits, stops, load_width, store_width, load_value, store_value, store_word, within_word, return_in_a0, read_call, write_call, environment_call, execute, execute_atomic, atomic_at, load_reserved, store_conditional, fetch_and, execute_if, fetch_word, step}
 use Rattle.rv_spec.specs.Cells.{register_cell, reservation_cell, value}
-use Rattle.rv_spec.specs.Touches.{Use, use_of, use_register, use_buffer, where_aligned, argument_uses, call_uses, uses, aligned_atomic_uses, atomic_uses, instruction_uses, step_uses}
-use Rattle.rv_spec.proofs.MemoryLaws.{byte-outside}
+use Rattle.rv_spec.specs.Visits.{Use, use_of, use_register, use_buffer, where_aligned, argument_uses, call_uses, uses, aligned_atomic_uses, atomic_uses, instruction_uses, step_uses}
+use Rattle.rv_rules.proofs.Lemmas.{byte-outside}
 use Rattle.rv_isa.proofs.Stores.{fits-word}
 use Rattle.rv_isa.proofs.Calls.{within}
 
@@ -25,7 +25,7 @@ abbrev pub Spares : ℕ → List Use → Type 0
 Spares c us = AllByRecursion (λ u. 6 ≤ u.slot → u.cell ≢ c) us
 
 -- where the run goes on, the cell has the value that it had
-abbrev pub Keeps : ℕ → State → Turn → Type 0
+abbrev pub Keeps : ℕ → State → Transition → Type 0
 Keeps c s (Next t) = value t c ≡ value s c
 Keeps c s (Ends e) = Unit {0}
 
@@ -105,7 +105,7 @@ jump-keeps c s t target same = go (target % 4 == 0)
     go false = tt
 
 -- a turn where an address or a target is aligned
-aligned-keeps : (c : ℕ) (s : State) (n kind : ℕ) (t : Turn) (vs : List Use) → (n ≡ 0 → Spares c vs → Keeps c s t) → Spares c (cond (n == 0) vs []) → Keeps c s (cond (n == 0) t (stops kind))
+aligned-keeps : (c : ℕ) (s : State) (n kind : ℕ) (t : Transition) (vs : List Use) → (n ≡ 0 → Spares c vs → Keeps c s t) → Spares c (cond (n == 0) vs []) → Keeps c s (cond (n == 0) t (stops kind))
 aligned-keeps c s n kind t vs keep h = go (n == 0) refl h
   where
     go : (b : Bool) → (n == 0) ≡ b → Spares c (cond b vs []) → Keeps c s (cond b t (stops kind))

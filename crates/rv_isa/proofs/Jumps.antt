@@ -7,8 +7,8 @@ use Rattle.rv_base.specs.declared.instr.Instr.TheVariants.{Jal, Jalr, Branch}
 use Rattle.rv_spec.specs.Words.{plus}
 use Rattle.rv_spec.specs.Arithmetic.{taken}
 use Rattle.rv_spec.specs.Step.{State, Next, register, with_register, advance, jump, stops, execute}
-use Rattle.rv_spec.specs.Touches.{Use, use_register, where_aligned, uses}
-use Rattle.rv_spec.specs.Expected.{on_register, operand, reads_one, reads_two, goes_to, ends, pc_plus_4, jumps, expected_instr}
+use Rattle.rv_spec.specs.Visits.{Use, use_register, where_aligned, uses}
+use Rattle.rv_rules.specs.Expected.{on_register, operand, reads_one, reads_two, goes_to, ends, pc_plus_4, jumps, expected_instr}
 use Rattle.rv_isa.proofs.Uses.{Sees, Follows, made, sees-left, goes-on, aligned-follows}
 use Rattle.rv_isa.proofs.Registers.{reads-register, reads-two, operand-first, operand-second, writes-register, register-with}
 

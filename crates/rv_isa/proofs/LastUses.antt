@@ -4,17 +4,18 @@ use Rattle.std.proofs.lemmas.Bool.{eqb-true, eqb-false, ne_eqb, leb-true}
 use Rattle.rv_base.specs.declared.record.Tuple.{Tuple}
 use Rattle.rv_spec.specs.Elf.{Image}
 use Rattle.rv_spec.specs.Decode.{decode_any}
-use Rattle.rv_spec.specs.Step.{State, Turn, Next, Ends, fetch_word, step}
+use Rattle.rv_spec.specs.Step.{State, Transition, Next, Ends, fetch_word, step}
 use Rattle.rv_spec.specs.Run.{state_after, next_state, run}
 use Rattle.rv_spec.specs.Cells.{value, initial_value, time_of}
-use Rattle.rv_spec.specs.Touches.{Use, Visit, step_uses, visit, touches}
-use Rattle.rv_spec.specs.Trace.{left_by, history, last_use, left_at}
-use Rattle.rv_spec.specs.Chain.{at, value_before}
-use Rattle.rv_spec.specs.Agreement.{HoldsLastUses}
-use Rattle.rv_spec.proofs.ChainCore.{In, in-map, at-is}
-use Rattle.rv_spec.proofs.ChainLaws.{last_use-is}
-use Rattle.rv_spec.proofs.MultisetLaws.{left_true, right_true}
-use Rattle.rv_spec.proofs.Members.{in-append, in-left, in-right, in-map-back, all-in, all-of}
+use Rattle.rv_spec.specs.Visits.{Use, Visit, step_uses, visit, visits}
+use Rattle.rv_spec.specs.Trace.{tuples_left, history, last_use, left_at}
+use Rattle.rv_rules.specs.Chain.{at, value_before}
+use Rattle.rv_rules.specs.Agreement.{HoldsLastUses}
+use Rattle.rv_rules.specs.Membership.{In}
+use Rattle.rv_rules.proofs.Lemmas.{in-map, at-is}
+use Rattle.rv_rules.proofs.Lemmas.{last_use-is}
+use Rattle.rv_rules.proofs.Lemmas.{left_true, right_true}
+use Rattle.rv_rules.proofs.Lemmas.{in-append, in-left, in-right, in-map-back, all-in, all-of}
 use Rattle.rv_isa.proofs.Slots.{Rises, slots-rise, all-within}
 use Rattle.rv_isa.proofs.Frame.{Spares, Keeps, step-keeps}
 
@@ -77,7 +78,7 @@ last-of c (x ∷ xs) lo hi r = go (x.cell == c) refl (last-of c xs (x.slot + 1) 
 
 -- ---- a step
 
-pub after-kept : (c : ℕ) (s : State) (turn : Turn) → Keeps c s turn → value (state_after s turn) c ≡ value s c
+pub after-kept : (c : ℕ) (s : State) (turn : Transition) → Keeps c s turn → value (state_after s turn) c ≡ value s c
 after-kept c s (Next t) h = h
 after-kept c s (Ends e) h = refl
 
@@ -92,7 +93,7 @@ module _ (initial : ℕ → ℕ) (input : List ℕ) (s : State) (n c : ℕ) (ts 
   t = next_state input s
 
   abbrev all : List Tuple
-  all = ts ++ left_by n (map (visit s t) us)
+  all = ts ++ tuples_left n (map (visit s t) us)
 
   rise : Rises 1 9 us
   unfolding step_uses
@@ -103,7 +104,7 @@ module _ (initial : ℕ → ℕ) (input : List ℕ) (s : State) (n c : ℕ) (ts 
 
   -- a tuple is an earlier one, or that of a use of the step
   parts : (w : Tuple) → In w all → In w ts ⊎ ((u : Use) × In u us × (w ≡ left n (visit s t u)))
-  parts w m = elim (in-append w ts (left_by n (map (visit s t) us)) m) [
+  parts w m = elim (in-append w ts (tuples_left n (map (visit s t) us)) m) [
     | inl h ↦ inl h
     | inr h ↦
         let a = in-map-back (left n) w (map (visit s t) us) h in
@@ -123,7 +124,7 @@ module _ (initial : ℕ → ℕ) (input : List ℕ) (s : State) (n c : ℕ) (ts 
             inr (
               w,
               record {
-                stands = in-left w ts (left_by n (map (visit s t) us)) is.stands;
+                stands = in-left w ts (tuples_left n (map (visit s t) us)) is.stands;
                 cell = is.cell;
                 some = is.some;
                 early = omega (arith, is.early);
@@ -149,7 +150,7 @@ module _ (initial : ℕ → ℕ) (input : List ℕ) (s : State) (n c : ℕ) (ts 
       inr (
         w,
         record {
-          stands = in-right w ts (left_by n (map (visit s t) us)) (in-map (left n) (visit s t u) (map (visit s t) us) (in-map (visit s t) u us l.0));
+          stands = in-right w ts (tuples_left n (map (visit s t) us)) (in-map (left n) (visit s t u) (map (visit s t) us) (in-map (visit s t) u us l.0));
           cell = l.1;
           some = omega (arith, bounds.0);
           early = omega (arith, bounds.1);
@@ -185,12 +186,12 @@ module _ (initial : ℕ → ℕ) (input : List ℕ) (s : State) (n c : ℕ) (ts 
 -- ---- runs
 
 run-earlier : (i : Image) (input : List ℕ) (n : ℕ) (w : Tuple) → In w (history i input n) → w.time < time_of n 0
-unfolding history touches run
+unfolding history visits run
 run-earlier i input zero w m = absurd m
 run-earlier i input (suc n) w m = all-earlier (initial_value i) input (run i input n) n 0 (history i input n) (run-earlier i input n) w m
 
 run-holds : (i : Image) (input : List ℕ) (n c : ℕ) → Holds (initial_value i) (history i input n) c (value (run i input n) c) (time_of n 0)
-unfolding history touches run
+unfolding history visits run
 run-holds i input zero c = inl ((λ u m. absurd m), refl)
 run-holds i input (suc n) c = step-holds (initial_value i) input (run i input n) n c (history i input n) (run-earlier i input n) (run-holds i input n c)
 

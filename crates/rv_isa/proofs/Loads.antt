@@ -9,10 +9,10 @@ use Rattle.rv_base.specs.declared.instr.Instr.TheVariants.{Load}
 use Rattle.rv_spec.specs.Words.{word, plus}
 use Rattle.rv_spec.specs.Step.{State, register, with_register, load_width, load_value, advance, stops, execute}
 use Rattle.rv_spec.specs.Cells.{value}
-use Rattle.rv_spec.specs.Touches.{Use, use_of, use_register, where_aligned, uses}
-use Rattle.rv_spec.specs.Expected.{Expected, touch, on_register, reads_one, moves, pc_plus_4, extract, expected_instr}
-use Rattle.rv_spec.specs.Agreement.{IsState}
-use Rattle.rv_spec.proofs.MemoryLaws.{extract-loaded}
+use Rattle.rv_spec.specs.Visits.{Use, use_of, use_register, where_aligned, uses}
+use Rattle.rv_rules.specs.Expected.{Expected, touch, on_register, reads_one, moves, pc_plus_4, extract, expected_instr}
+use Rattle.rv_rules.specs.Agreement.{IsState}
+use Rattle.rv_rules.proofs.Lemmas.{extract-loaded}
 use Rattle.rv_isa.proofs.Uses.{Sees, Follows, made, sees-left, joined, goes-on, aligned-follows}
 use Rattle.rv_isa.proofs.Registers.{reads-register, operand-first, writes-register, register-with}
 

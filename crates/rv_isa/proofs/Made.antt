@@ -6,11 +6,11 @@ use Rattle.rv_base.specs.declared.instr.LoadKind.TheVariants as loads
 use Rattle.rv_base.specs.declared.instr.StoreKind.{StoreKind}
 use Rattle.rv_base.specs.declared.instr.StoreKind.TheVariants as stores
 use Rattle.rv_spec.specs.Step.{load_width, store_width}
-use Rattle.rv_spec.specs.Expected.{Expected, goes_to, ends, jumps, moves}
+use Rattle.rv_rules.specs.Expected.{Expected, goes_to, ends, jumps, moves}
 use Rattle.rv_isa.specs.declared.outcome.Outcome.{Outcome}
-use Rattle.rv_isa.specs.Given.{Makes}
+use Rattle.rv_isa.specs.Represented.{AppendsExpected}
 
-after : (e f : Expected) (first middle last reads : List Touch) (o : Outcome) → f ≡ record e { touches = reads ++ e.touches } → middle ≡ first ++ reads → Makes e middle last o → Makes f first last o
+after : (e f : Expected) (first middle last reads : List Touch) (o : Outcome) → f ≡ record e { touches = reads ++ e.touches } → middle ≡ first ++ reads → AppendsExpected e middle last o → AppendsExpected f first last o
 after e f first middle last reads o same read m =
     let whole : first ++ reads ++ e.touches ≡ first ++ f.touches = append_assoc first reads e.touches ∙ ap (λ l. first ++ l) (sym (ap (λ x. x.touches) same)) in
     record {
@@ -24,17 +24,17 @@ after e f first middle last reads o same read m =
     }
 
 -- a step that reads and then goes on
-pub goes-after : (next : ℕ) (reads writes first middle last : List Touch) (o : Outcome) → middle ≡ first ++ reads → Makes (goes_to next writes) middle last o → Makes (goes_to next (reads ++ writes)) first last o
+pub goes-after : (next : ℕ) (reads writes first middle last : List Touch) (o : Outcome) → middle ≡ first ++ reads → AppendsExpected (goes_to next writes) middle last o → AppendsExpected (goes_to next (reads ++ writes)) first last o
 goes-after next reads writes first middle last o read m = after (goes_to next writes) (goes_to next (reads ++ writes)) first middle last reads o refl read m
 
-pub jumps-after : (pc target : ℕ) (reads writes first middle last : List Touch) (o : Outcome) → middle ≡ first ++ reads → Makes (jumps pc target [] writes) middle last o → Makes (jumps pc target reads writes) first last o
+pub jumps-after : (pc target : ℕ) (reads writes first middle last : List Touch) (o : Outcome) → middle ≡ first ++ reads → AppendsExpected (jumps pc target [] writes) middle last o → AppendsExpected (jumps pc target reads writes) first last o
 jumps-after pc target reads writes first middle last o read m = after (jumps pc target [] writes) (jumps pc target reads writes) first middle last reads o (same (target % 4 == 0)) read m
   where
     same : (b : Bool) → cond b (goes_to target (reads ++ writes)) (ends pc 3 0 reads) ≡ record (cond b (goes_to target writes) (ends pc 3 0 [])) { touches = reads ++ (cond b (goes_to target writes) (ends pc 3 0 [])).touches }
     same true = refl
     same false = ap (λ l. ends pc 3 0 l) (sym (append-nil reads))
 
-pub moves-after : (pc width a kind : ℕ) (reads writes first middle last : List Touch) (o : Outcome) → middle ≡ first ++ reads → Makes (moves pc width a kind [] writes) middle last o → Makes (moves pc width a kind reads writes) first last o
+pub moves-after : (pc width a kind : ℕ) (reads writes first middle last : List Touch) (o : Outcome) → middle ≡ first ++ reads → AppendsExpected (moves pc width a kind [] writes) middle last o → AppendsExpected (moves pc width a kind reads writes) first last o
 moves-after pc width a kind reads writes first middle last o read m = after (moves pc width a kind [] writes) (moves pc width a kind reads writes) first middle last reads o (same (a % width == 0)) read m
   where
     same : (b : Bool) → cond b (goes_to ((pc + 4) % 2 ^ 32) (reads ++ writes)) (ends pc kind 0 reads) ≡ record (cond b (goes_to ((pc + 4) % 2 ^ 32) writes) (ends pc kind 0 [])) { touches = reads ++ (cond b (goes_to ((pc + 4) % 2 ^ 32) writes) (ends pc kind 0 [])).touches }
@@ -59,6 +59,6 @@ pub ruleset made = (goes-after, jumps-after, moves-after)
 pub ruleset lanes = (load-within, store-within)
 
 -- a step that ends the run, and accesses nothing more
-pub ends-made : (pc kind code : ℕ) (first : List Touch) (o : Outcome) → o ≡ record { next = pc; end = Some (record { kind = kind; code = code }); took = 0; put = 0; word = 0 } → Makes (ends pc kind code []) first first o
+pub ends-made : (pc kind code : ℕ) (first : List Touch) (o : Outcome) → o ≡ record { next = pc; end = Some (record { kind = kind; code = code }); took = 0; put = 0; word = 0 } → AppendsExpected (ends pc kind code []) first first o
 ends-made pc kind code first o is =
-    subst (λ (p : Outcome). Makes (ends pc kind code []) first first p) (sym is) (record { touches = sym (append-nil first); next = refl; end = refl; took = refl; put = refl; word = refl; most = omega arith })
+    subst (λ (p : Outcome). AppendsExpected (ends pc kind code []) first first p) (sym is) (record { touches = sym (append-nil first); next = refl; end = refl; took = refl; put = refl; word = refl; most = omega arith })

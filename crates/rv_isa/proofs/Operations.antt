@@ -7,8 +7,8 @@ use Rattle.rv_base.specs.declared.instr.Op.{Op}
 use Rattle.rv_base.specs.declared.instr.Instr.TheVariants.{Lui, Auipc, OpImm, Op as OpReg}
 use Rattle.rv_spec.specs.Arithmetic.{compute}
 use Rattle.rv_spec.specs.Step.{State, register, with_register, advance, execute}
-use Rattle.rv_spec.specs.Touches.{Use, use_register, uses}
-use Rattle.rv_spec.specs.Expected.{on_register, operand, reads_one, reads_two, goes_to, pc_plus_4, expected_instr}
+use Rattle.rv_spec.specs.Visits.{Use, use_register, uses}
+use Rattle.rv_rules.specs.Expected.{on_register, operand, reads_one, reads_two, goes_to, pc_plus_4, expected_instr}
 use Rattle.rv_isa.proofs.Uses.{Sees, Follows, made, sees-left, joined, goes-on}
 use Rattle.rv_isa.proofs.Registers.{reads-register, reads-two, operand-first, operand-second, writes-register, register-with}
 

@@ -13,8 +13,8 @@ use Rattle.rv_spec.specs.Words.{plus}
 use Rattle.rv_spec.specs.Decode.{AnyInstr, rv32im, rv32a, decode, decode_atomic, decode_any}
 use Rattle.rv_spec.specs.Step.{State, register, within_word, fetch_word}
 use Rattle.rv_spec.specs.Cells.{register_cell, reservation_cell}
-use Rattle.rv_spec.specs.Touches.{Use, use_of, use_register, use_buffer, where_aligned, argument_uses, call_uses, uses, aligned_atomic_uses, atomic_uses, instruction_uses}
-use Rattle.rv_spec.specs.Agreement.{IsState}
+use Rattle.rv_spec.specs.Visits.{Use, use_of, use_register, use_buffer, where_aligned, argument_uses, call_uses, uses, aligned_atomic_uses, atomic_uses, instruction_uses}
+use Rattle.rv_rules.specs.Agreement.{IsState}
 use Rattle.rv_isa.proofs.Fields.{HasFields, HasAnyFields, any-decoded}
 use Rattle.rv_isa.proofs.WordRanges.{register-fits}
 

@@ -4,9 +4,9 @@ use Rattle.std.proofs.lemmas.Bool.{eqb-false, le-ltb, ne_eqb}
 use Rattle.rv_base.specs.declared.record.Seen.{Seen}
 use Rattle.rv_spec.specs.Step.{State, register, with_register}
 use Rattle.rv_spec.specs.Cells.{register_cell, value}
-use Rattle.rv_spec.specs.Touches.{Use, use_of, use_register}
-use Rattle.rv_spec.specs.Expected.{touch, on_register, operand, reads_two}
-use Rattle.rv_isa.proofs.Uses.{in_slot, Sees, made, sees-left, sees-right, joined}
+use Rattle.rv_spec.specs.Visits.{Use, use_of, use_register}
+use Rattle.rv_rules.specs.Expected.{touch, on_register, operand, reads_two}
+use Rattle.rv_isa.proofs.Uses.{seen_in, Sees, made, sees-left, sees-right, joined}
 
 pub value-register : (s : State) (r : ℕ) → r < 32 → value s (register_cell r) ≡ register s r
 unfolding value
@@ -16,10 +16,10 @@ value-register s r h =
     let back : 2 ^ 30 + r - 2 ^ 30 ≡ r = omega arith in
     rw (above, other, back) refl
 
-pub reads-register : (v : Seen) (s t : State) (j r : ℕ) → nat_le j 5 ≡ true → Sees v s (use_register j r) → on_register j r (in_slot v j) ≡ made s t (use_register j r)
+pub reads-register : (v : Seen) (s t : State) (j r : ℕ) → nat_le j 5 ≡ true → Sees v s (use_register j r) → on_register j r (seen_in v j) ≡ made s t (use_register j r)
 reads-register v s t j r early sees = go (r == 0) sees
   where
-    go : (b : Bool) → Sees v s (cond b [] (use_of j (register_cell r))) → cond b [] (touch j (register_cell r) (in_slot v j)) ≡ made s t (cond b [] (use_of j (register_cell r)))
+    go : (b : Bool) → Sees v s (cond b [] (use_of j (register_cell r))) → cond b [] (touch j (register_cell r) (seen_in v j)) ≡ made s t (cond b [] (use_of j (register_cell r)))
     go true h = refl
     go false h = ap (touch j (register_cell r)) (h.0 ∙ sym (ap (λ b. cond b (value s (register_cell r)) (value t (register_cell r))) early))
 
@@ -30,10 +30,10 @@ reads-two v s t q r sees =
     joined s t (use_register 2 q) (use_register 3 r) (on_register 2 q v.s2) (on_register 3 r v.s3) first second
 
 -- what is read is the register's value
-pub operand-is : (v : Seen) (s : State) (j r : ℕ) → r < 32 → Sees v s (use_register j r) → operand r (in_slot v j) ≡ register s r
+pub operand-is : (v : Seen) (s : State) (j r : ℕ) → r < 32 → Sees v s (use_register j r) → operand r (seen_in v j) ≡ register s r
 operand-is v s j r small sees = go (r == 0) refl sees
   where
-    go : (b : Bool) → (r == 0) ≡ b → Sees v s (cond b [] (use_of j (register_cell r))) → cond b 0 (in_slot v j) ≡ cond b 0 (slice_index s.registers (r - 1))
+    go : (b : Bool) → (r == 0) ≡ b → Sees v s (cond b [] (use_of j (register_cell r))) → cond b 0 (seen_in v j) ≡ cond b 0 (slice_index s.registers (r - 1))
     go true e h = refl
     go false e h = h.0 ∙ value-register s r small ∙ ap (λ b. cond b 0 (slice_index s.registers (r - 1))) e
 

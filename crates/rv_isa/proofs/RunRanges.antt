@@ -4,11 +4,11 @@ use Rattle.rv_base.specs.declared.record.End.{End}
 use Rattle.rv_spec.specs.Words.{word, AreBytes}
 use Rattle.rv_spec.specs.Elf.{Image}
 use Rattle.rv_spec.specs.Decode.{decode_any}
-use Rattle.rv_spec.specs.Step.{State, Turn, Next, Ends, register, fetch_word, step}
+use Rattle.rv_spec.specs.Step.{State, Transition, Next, Ends, register, fetch_word, step}
 use Rattle.rv_spec.specs.Run.{run, state_after, end_of, end_at}
 use Rattle.rv_spec.specs.Cells.{value, reservation_cell}
-use Rattle.rv_spec.specs.Touches.{step_uses}
-use Rattle.rv_spec.specs.Agreement.{IsState}
+use Rattle.rv_spec.specs.Visits.{step_uses}
+use Rattle.rv_rules.specs.Agreement.{IsState}
 use Rattle.rv_isa.specs.Ranges.{Rises, AreCells, EndFits, RunsFit}
 use Rattle.rv_isa.proofs.WordRanges.{register-fits, word-fits}
 use Rattle.rv_isa.proofs.States.{runs-are-states}
@@ -36,7 +36,7 @@ step-slots-rise input s = (omega arith, slots-rise input (decode_any s.version (
 
 -- ---- a run
 
-after-version : (s : State) (turn : Turn) → SameVersion s turn → (state_after s turn).version ≡ s.version
+after-version : (s : State) (turn : Transition) → SameVersion s turn → (state_after s turn).version ≡ s.version
 after-version s (Next t) h = h
 after-version s (Ends e) h = refl
 
@@ -46,11 +46,11 @@ unfolding run
 run-version i input zero = refl
 run-version i input (suc n) = after-version (run i input n) (step input (run i input n)) (step-version input (run i input n)) ∙ run-version i input n
 
-after-fits : (s : State) (turn : Turn) → TurnFits s turn → ((state_after s turn).position ≤ s.position + 4) × (AreBytes s.output → AreBytes (state_after s turn).output)
+after-fits : (s : State) (turn : Transition) → TurnFits s turn → ((state_after s turn).position ≤ s.position + 4) × (AreBytes s.output → AreBytes (state_after s turn).output)
 after-fits s (Next t) h = h
 after-fits s (Ends e) h = (omega arith, λ k. k)
 
-turn-end : (s : State) (turn : Turn) (e : End) → TurnFits s turn → end_of turn ≡ Some e → EndFits e
+turn-end : (s : State) (turn : Transition) (e : End) → TurnFits s turn → end_of turn ≡ Some e → EndFits e
 turn-end s (Next t) e h is = absurd cc
 turn-end s (Ends f) e h is = (let same : f ≡ e = cc in subst EndFits same h)
 

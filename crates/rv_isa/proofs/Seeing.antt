@@ -5,11 +5,11 @@ use Rattle.std.proofs.lemmas.Bool.{eqb-false, eq-eqb, lt-ltb, le-ltb, cases_lt}
 use Rattle.rv_base.specs.declared.record.Seen.{Seen}
 use Rattle.rv_spec.specs.Step.{State, register}
 use Rattle.rv_spec.specs.Cells.{is_cell, register_cell, reservation_cell, value}
-use Rattle.rv_spec.specs.Expected.{operand}
-use Rattle.rv_spec.specs.Touches.{Use}
+use Rattle.rv_rules.specs.Expected.{operand}
+use Rattle.rv_spec.specs.Visits.{Use}
 use Rattle.rv_isa.specs.declared.operands.Operands.{Operands}
 use Rattle.rv_isa.specs.Operands.{word_at, cell_in, IsCovered}
-use Rattle.rv_isa.specs.Sees.{in_slot, Sees}
+use Rattle.rv_isa.specs.Sees.{seen_in, Sees}
 use Rattle.rv_isa.proofs.Registers.{value-register}
 use Rattle.rv_isa.proofs.Placed.{IsPlaced, ArePlaced}
 
@@ -55,7 +55,7 @@ pub record ShowsSlots (o : Operands) (s : State) (v : Seen) : Type 0 where
   pub seven : Reads s v.s7 (register_cell o.rd)
   pub eight : Reads s v.s8 reservation_cell
 
-slot-shown : (o : Operands) (s : State) (v : Seen) (j : ℕ) → ShowsSlots o s v → 2 ≤ j → j < 9 → (j ≡ 6 → cell_in o s j < 2 ^ 30) → (¬ (j ≡ 6) → (2 ^ 30 < cell_in o s j) × (cell_in o s j < 2 ^ 30 + 33)) → in_slot v j ≡ value s (cell_in o s j)
+slot-shown : (o : Operands) (s : State) (v : Seen) (j : ℕ) → ShowsSlots o s v → 2 ≤ j → j < 9 → (j ≡ 6 → cell_in o s j < 2 ^ 30) → (¬ (j ≡ 6) → (2 ^ 30 < cell_in o s j) × (cell_in o s j < 2 ^ 30 + 33)) → seen_in v j ≡ value s (cell_in o s j)
 slot-shown o s v zero h lo hi word high = absurd (omega arith)
 slot-shown o s v (suc zero) h lo hi word high = absurd (omega arith)
 slot-shown o s v (suc (suc zero)) h lo hi word high = let b = high (λ e. absurd (omega arith)) in h.two b.0 b.1

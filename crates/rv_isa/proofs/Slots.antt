@@ -10,12 +10,12 @@ use Rattle.rv_base.specs.declared.instr.Atomic.{Atomic}
 use Rattle.rv_spec.specs.Words.{plus}
 use Rattle.rv_spec.specs.Decode.{AnyInstr, rv32im, rv32a}
 use Rattle.rv_spec.specs.Step.{State, register, load_width, store_width, within_word}
-use Rattle.rv_spec.specs.Chain.{AllDiffer}
+use Rattle.rv_rules.specs.Chain.{AllDiffer}
 use Rattle.rv_spec.specs.Cells.{register_cell, reservation_cell}
-use Rattle.rv_spec.specs.Touches.{Use, use_of, use_register, use_buffer, where_aligned, argument_uses, call_uses, uses, aligned_atomic_uses, atomic_uses, instruction_uses}
-use Rattle.rv_spec.specs.RowRules.{old_in, seen}
+use Rattle.rv_spec.specs.Visits.{Use, use_of, use_register, use_buffer, where_aligned, argument_uses, call_uses, uses, aligned_atomic_uses, atomic_uses, instruction_uses}
+use Rattle.rv_rules.specs.RowRules.{old_in, seen}
 pub use Rattle.rv_isa.specs.Ranges.{Rises}
-use Rattle.rv_isa.proofs.Uses.{in_slot}
+use Rattle.rv_isa.proofs.Uses.{seen_in}
 
 from-lower : (lo mid hi : ℕ) (us : List Use) → lo ≤ mid → Rises mid hi us → Rises lo hi us
 from-lower lo mid hi [] h r = omega arith
@@ -141,7 +141,7 @@ slots-differ lo hi (u ∷ us) r = (apart us (all-within (u.slot + 1) hi us r.1),
     apart (v ∷ vs) h = ((λ e. absurd (omega (arith, h.0.0, e))), apart vs h.1)
 
 -- what a row shows in a slot
-pub slot-seen : (accesses : List Access) (j : ℕ) → 1 ≤ j → j < 9 → in_slot (seen accesses) j ≡ old_in accesses j
+pub slot-seen : (accesses : List Access) (j : ℕ) → 1 ≤ j → j < 9 → seen_in (seen accesses) j ≡ old_in accesses j
 slot-seen accesses zero h k = absurd (omega arith)
 slot-seen accesses (suc zero) h k = refl
 slot-seen accesses (suc (suc zero)) h k = refl

@@ -15,11 +15,11 @@ use Rattle.rv_base.specs.declared.instr.StoreKind.{StoreKind}
 use Rattle.rv_spec.specs.Words.{Memory, Block, block_byte, byte, store_bytes, bytes_from, plus, AreBytes}
 use Rattle.rv_spec.specs.Decode.{AnyInstr, rv32im, rv32a, decode_any}
 use Rattle.rv_spec.specs.Arithmetic.{compute, taken, amo_result}
-use Rattle.rv_spec.specs.Step.{State, Turn, Next, Ends, start, register, with_register, with_memory, advance, jump, exits, stops, load_width, store_width, load_value, store_value, store_word, within_word, return_in_a0, read_call, write_call, environment_call, execute, execute_atomic, atomic_at, load_reserved, store_conditional, fetch_and, execute_if, fetch_word, step}
+use Rattle.rv_spec.specs.Step.{State, Transition, Next, Ends, start, register, with_register, with_memory, advance, jump, exits, stops, load_width, store_width, load_value, store_value, store_word, within_word, return_in_a0, read_call, write_call, environment_call, execute, execute_atomic, atomic_at, load_reserved, store_conditional, fetch_and, execute_if, fetch_word, step}
 use Rattle.rv_spec.specs.Elf.{Image}
 use Rattle.rv_spec.specs.Run.{state_after, run}
-use Rattle.rv_spec.specs.Agreement.{IsState, IsProgram, RunsAreStates}
-use Rattle.rv_spec.proofs.MemoryLaws.{byte-one}
+use Rattle.rv_rules.specs.Agreement.{IsState, IsProgram, RunsAreStates}
+use Rattle.rv_rules.proofs.Lemmas.{byte-one}
 use Rattle.rv_isa.proofs.WordRanges.{IsWord, index-below, register-fits}
 use Rattle.rv_isa.proofs.ByteLists.{take-bytes, drop-bytes, word-bytes}
 use Rattle.rv_isa.proofs.Results.{compute-fits, load-fits}
@@ -86,7 +86,7 @@ streams-stay s position output is = record { pc = is.pc; aligned = is.aligned; c
 -- ---- turns
 
 -- where the run goes on, it goes on in a state, at a position within the input
-abbrev pub Stays : List ℕ → Turn → Type 0
+abbrev pub Stays : List ℕ → Transition → Type 0
 Stays input (Next t) = IsState t × (t.position ≤ length input)
 Stays input (Ends e) = Unit {0}
 
@@ -104,11 +104,11 @@ jump-stays input s target is within small = go (target % 4 == 0) refl
     go false e = tt
 
 -- a turn, or a stop
-if-stays : (input : List ℕ) (b : Bool) (t : Turn) (kind : ℕ) → (b ≡ true → Stays input t) → Stays input (cond b t (stops kind))
+if-stays : (input : List ℕ) (b : Bool) (t : Transition) (kind : ℕ) → (b ≡ true → Stays input t) → Stays input (cond b t (stops kind))
 if-stays input true t kind h = h refl
 if-stays input false t kind h = tt
 
-either-stays : (input : List ℕ) (b : Bool) (t u : Turn) → Stays input t → Stays input u → Stays input (cond b t u)
+either-stays : (input : List ℕ) (b : Bool) (t u : Transition) → Stays input t → Stays input u → Stays input (cond b t u)
 either-stays input true t u p q = p
 either-stays input false t u p q = q
 
@@ -140,7 +140,7 @@ write-stays input s is within =
     let buffer : ℕ = register s 11 in
     let k : ℕ = within_word buffer (register s 12) in
     let put : State = record s { output = s.output ++ bytes_from s.memory buffer k } in
-    let answered : Turn = cond (register s 10 == 2) (return_in_a0 (register s 12) s) (return_in_a0 0xFFFFFFF7 s) in
+    let answered : Transition = cond (register s 10 == 2) (return_in_a0 (register s 12) s) (return_in_a0 0xFFFFFFF7 s) in
     either-stays input (register s 10 == 1) (return_in_a0 k put) answered (sets-stays input put 10 k (streams-stay s s.position (s.output ++ bytes_from s.memory buffer k) is) within (omega arith))
     (either-stays input (register s 10 == 2) (return_in_a0 (register s 12) s) (return_in_a0 0xFFFFFFF7 s) (sets-stays input s 10 (register s 12) is within (register-fits s 12 is))
     (sets-stays input s 10 0xFFFFFFF7 is within (omega arith)))
@@ -250,7 +250,7 @@ start-is i program = record {
   bytes = λ a. block-bytes i.blocks a program.bytes;
 }
 
-next-is : (input : List ℕ) (s : State) (turn : Turn) → IsState s → s.position ≤ length input → Stays input turn → IsState (state_after s turn) × ((state_after s turn).position ≤ length input)
+next-is : (input : List ℕ) (s : State) (turn : Transition) → IsState s → s.position ≤ length input → Stays input turn → IsState (state_after s turn) × ((state_after s turn).position ≤ length input)
 next-is input s (Next t) is within h = h
 next-is input s (Ends e) is within h = (is, within)
 

@@ -9,16 +9,17 @@ use Rattle.rv_base.specs.declared.instr.Instr.TheVariants.{Lui, Auipc, Jal, Jalr
 use Rattle.rv_base.specs.declared.instr.AtomicOp.{AtomicOp}
 use Rattle.rv_base.specs.declared.instr.AtomicOp.TheVariants as amo
 use Rattle.rv_spec.specs.Decode.{AnyInstr, rv32im, rv32a, decode_any}
-use Rattle.rv_spec.specs.Step.{State, Turn, Next, Ends, register, fetch_word, environment_call, execute, execute_atomic, atomic_at, execute_if, step}
+use Rattle.rv_spec.specs.Step.{State, Transition, Next, Ends, register, fetch_word, environment_call, execute, execute_atomic, atomic_at, execute_if, step}
 use Rattle.rv_spec.specs.Run.{next_state}
 use Rattle.rv_spec.specs.Cells.{value}
-use Rattle.rv_spec.specs.Chain.{AllDiffer}
-use Rattle.rv_spec.specs.Touches.{Use, visit, touches, instruction_uses, step_uses}
-use Rattle.rv_spec.specs.Agreement.{IsState, touch_of}
-use Rattle.rv_spec.proofs.ChainCore.{In, in-map}
-use Rattle.rv_spec.proofs.Members.{all-in, all-of}
-use Rattle.rv_isa.specs.Cells.{IsRegister, access_in, if_changed, after, left_by, ArePlaced}
-use Rattle.rv_isa.specs.Sees.{in_slot, Sees}
+use Rattle.rv_rules.specs.Chain.{AllDiffer}
+use Rattle.rv_spec.specs.Visits.{Use, visit, visits, instruction_uses, step_uses}
+use Rattle.rv_rules.specs.Agreement.{IsState, touch_of}
+use Rattle.rv_rules.specs.Membership.{In}
+use Rattle.rv_rules.proofs.Lemmas.{in-map}
+use Rattle.rv_rules.proofs.Lemmas.{all-in, all-of}
+use Rattle.rv_isa.specs.Cells.{IsRegisterCell, access_in, if_changed, after_touch, after_touches, ArePlaced}
+use Rattle.rv_isa.specs.Sees.{seen_in, Sees}
 use Rattle.rv_isa.proofs.Uses.{made}
 use Rattle.rv_isa.proofs.Slots.{Rises, slots-rise, all-within, slots-differ}
 use Rattle.rv_isa.proofs.Placed.{IsPlaced, uses-placed}
@@ -27,11 +28,11 @@ use Rattle.rv_isa.proofs.LastUses.{after-kept}
 
 -- ---- a step keeps the version
 
-abbrev pub SameVersion : State → Turn → Type 0
+abbrev pub SameVersion : State → Transition → Type 0
 SameVersion s (Next t) = t.version ≡ s.version
 SameVersion s (Ends e) = Unit {0}
 
-same-cond : (s : State) (b : Bool) (t u : Turn) → SameVersion s t → SameVersion s u → SameVersion s (cond b t u)
+same-cond : (s : State) (b : Bool) (t u : Transition) → SameVersion s t → SameVersion s u → SameVersion s (cond b t u)
 same-cond s true t u h k = h
 same-cond s false t u h k = k
 
@@ -95,7 +96,7 @@ module _ (s t : State) where
 abbrev Left : Option Touch → ℕ → ℕ → ℕ → ℕ → Type 0
 Left o c old new x = (x ≡ new) ⊎ ((x ≡ old) × ((w : Touch) → o ≡ Some w → w.cell ≢ c))
 
-after-left : (o : Option Touch) (c old new : ℕ) → ((w : Touch) → o ≡ Some w → w.cell ≡ c → w.new ≡ new) → Left o c old new (after o c old)
+after-left : (o : Option Touch) (c old new : ℕ) → ((w : Touch) → o ≡ Some w → w.cell ≡ c → w.new ≡ new) → Left o c old new (after_touch o c old)
 after-left None c old new h = inr (refl, λ w e same. (let no : ⊥ = cc in absurd no))
 after-left (Some w) c old new h = go (c == w.cell) refl
   where
@@ -103,7 +104,7 @@ after-left (Some w) c old new h = go (c == w.cell) refl
     go true e = inl (h w refl (sym (eqb-true c w.cell e)))
     go false e = inr (refl, λ y f same. eqb-false c w.cell e (sym same ∙ ap (λ z. z.cell) (let this : y ≡ w = cc in this)))
 
-changed-left : (word : ℕ) (o : Option Touch) (c old new : ℕ) → ((w : Touch) → o ≡ Some w → w.cell ≡ c → (w.new ≡ new) × (old ≡ word)) → Left o c old new (after (if_changed word o) c old)
+changed-left : (word : ℕ) (o : Option Touch) (c old new : ℕ) → ((w : Touch) → o ≡ Some w → w.cell ≡ c → (w.new ≡ new) × (old ≡ word)) → Left o c old new (after_touch (if_changed word o) c old)
 changed-left word None c old new h = inr (refl, λ w e same. (let no : ⊥ = cc in absurd no))
 changed-left word (Some w) c old new h = go (w.new == word) refl
   where
@@ -111,17 +112,17 @@ changed-left word (Some w) c old new h = go (w.new == word) refl
     kept same true e = let k = h w refl (sym (eqb-true c w.cell e)) in inl (k.1 ∙ sym same ∙ k.0)
     kept same false e = inr (refl, λ y f this. eqb-false c w.cell e (sym this ∙ ap (λ z. z.cell) (let one : y ≡ w = cc in one)))
 
-    go : (b : Bool) → (w.new == word) ≡ b → Left (Some w) c old new (after (cond b None (Some w)) c old)
+    go : (b : Bool) → (w.new == word) ≡ b → Left (Some w) c old new (after_touch (cond b None (Some w)) c old)
     go true e = kept (eqb-true w.new word e) (c == w.cell) refl
     go false e = after-left (Some w) c old new (λ y f same. (h y f same).0)
 
 -- a cell that has its new value keeps it
-after-new : (o : Option Touch) (c new x : ℕ) → ((w : Touch) → o ≡ Some w → w.cell ≡ c → w.new ≡ new) → x ≡ new → after o c x ≡ new
+after-new : (o : Option Touch) (c new x : ℕ) → ((w : Touch) → o ≡ Some w → w.cell ≡ c → w.new ≡ new) → x ≡ new → after_touch o c x ≡ new
 after-new o c new x h e = elim (after-left o c x new h) [ inl same ↦ same | inr kept ↦ kept.0 ∙ e ]
 
 -- what the last of two accesses leaves
 then-left : (o p : Option Touch) (c old new x : ℕ) → Left o c old new x → ((w : Touch) → p ≡ Some w → w.cell ≡ c → w.new ≡ new)
-    → (after p c x ≡ new) ⊎ ((after p c x ≡ old) × ((w : Touch) → o ≡ Some w → w.cell ≢ c) × ((w : Touch) → p ≡ Some w → w.cell ≢ c))
+    → (after_touch p c x ≡ new) ⊎ ((after_touch p c x ≡ old) × ((w : Touch) → o ≡ Some w → w.cell ≢ c) × ((w : Touch) → p ≡ Some w → w.cell ≢ c))
 then-left o p c old new x (inl is) h = inl (after-new p c new x h is)
 then-left o p c old new x (inr is) h = elim (after-left p c x new h) [ inl same ↦ inl same | inr kept ↦ inr (kept.0 ∙ is.0, is.1, kept.1) ]
 
@@ -137,8 +138,8 @@ module _ (input : List ℕ) (s : State) (is : IsState s) where
   rise = (omega arith, slots-rise input (decode_any s.version (fetch_word s)) s)
 
   -- the accesses, use by use
-  pub accesses : (ts : List Touch) → ts ≡ map touch_of (touches input s) → ts ≡ made s t us
-  unfolding touches
+  pub accesses : (ts : List Touch) → ts ≡ map touch_of (visits input s) → ts ≡ made s t us
+  unfolding visits
   accesses ts e = e ∙ map-map touch_of (visit s t) us
 
   placed-use : (u : Use) → In u us → 2 ≤ u.slot → IsPlaced s.version u
@@ -146,7 +147,7 @@ module _ (input : List ℕ) (s : State) (is : IsState s) where
   placed-use u (inl first) late = absurd (omega (arith, ap (λ z. z.slot) first))
   placed-use u (inr m) late = all-in (IsPlaced s.version) (instruction_uses input (decode_any s.version (fetch_word s)) s) (uses-placed input s is) u m
 
-  placed-register : (j : ℕ) (w : Touch) → 7 ≤ j → access_in (made s t us) j ≡ Some w → IsRegister w.cell
+  placed-register : (j : ℕ) (w : Touch) → 7 ≤ j → access_in (made s t us) j ≡ Some w → IsRegisterCell w.cell
   placed-register j w late e =
       let f = found-use s t j us w e in
       let placed : IsPlaced s.version f.0 = placed-use f.0 f.1 (omega (arith, f.3)) in
@@ -162,7 +163,7 @@ module _ (input : List ℕ) (s : State) (is : IsState s) where
       let cell : w.cell ≡ f.0.cell = ap (λ z. z.cell) f.2 in
       omega arith
 
-  pub accesses-placed : (ts : List Touch) → ts ≡ map touch_of (touches input s) → ArePlaced ts
+  pub accesses-placed : (ts : List Touch) → ts ≡ map touch_of (visits input s) → ArePlaced ts
   accesses-placed ts e =
       subst ArePlaced (sym (accesses ts e))
       (record { word = placed-word; register = λ w f. placed-register 7 w (omega arith) f; reservation = λ w f. placed-register 8 w (omega arith) f })
@@ -180,8 +181,8 @@ module _ (input : List ℕ) (s : State) (is : IsState s) where
   old-value v c w sees e same =
       let f = found-use s t 6 us w e in
       let u : Use = f.0 in
-      let seen : in_slot v u.slot ≡ value s u.cell = all-in (λ u. in_slot v u.slot ≡ value s u.cell) us sees u f.1 in
-      ap (value s) (sym same ∙ ap (λ z. z.cell) f.2) ∙ sym seen ∙ ap (in_slot v) f.3
+      let seen : seen_in v u.slot ≡ value s u.cell = all-in (λ u. seen_in v u.slot ≡ value s u.cell) us sees u f.1 in
+      ap (value s) (sym same ∙ ap (λ z. z.cell) f.2) ∙ sym seen ∙ ap (seen_in v) f.3
 
   -- where no access of slots 6 to 8 is of the cell, it keeps its value
   spared : (c : ℕ) → ((j : ℕ) (w : Touch) → 6 ≤ j → j < 9 → access_in (made s t us) j ≡ Some w → w.cell ≢ c) → value t c ≡ value s c
@@ -205,15 +206,15 @@ module _ (input : List ℕ) (s : State) (is : IsState s) where
             ]
       ]
 
-  left-made : (v : Seen) (c : ℕ) → Sees v s us → left_by (made s t us) v.s6 c (value s c) ≡ value t c
+  left-made : (v : Seen) (c : ℕ) → Sees v s us → after_touches (made s t us) v.s6 c (value s c) ≡ value t c
   left-made v c sees =
       let o6 : Option Touch = access_in (made s t us) 6 in
       let o7 : Option Touch = access_in (made s t us) 7 in
       let o8 : Option Touch = access_in (made s t us) 8 in
       let old : ℕ = value s c in
       let new : ℕ = value t c in
-      let x6 : ℕ = after (if_changed v.s6 o6) c old in
-      let x7 : ℕ = after o7 c x6 in
+      let x6 : ℕ = after_touch (if_changed v.s6 o6) c old in
+      let x7 : ℕ = after_touch o7 c x6 in
       let h7 : (w : Touch) → o7 ≡ Some w → w.cell ≡ c → w.new ≡ new = λ w e same. new-value 7 c w refl e same in
       let h8 : (w : Touch) → o8 ≡ Some w → w.cell ≡ c → w.new ≡ new = λ w e same. new-value 8 c w refl e same in
       let first : Left o6 c old new x6 = changed-left v.s6 o6 c old new (λ w e same. (new-value 6 c w refl e same, old-value v c w sees e same)) in
@@ -224,6 +225,6 @@ module _ (input : List ℕ) (s : State) (is : IsState s) where
       ]
 
   -- after the accesses of a step, a cell that held what the state held holds what the next state does
-  pub left-is : (v : Seen) (ts : List Touch) (c old : ℕ) → Sees v s us → ts ≡ map touch_of (touches input s) → old ≡ value s c → left_by ts v.s6 c old ≡ value t c
+  pub left-is : (v : Seen) (ts : List Touch) (c old : ℕ) → Sees v s us → ts ≡ map touch_of (visits input s) → old ≡ value s c → after_touches ts v.s6 c old ≡ value t c
   left-is v ts c old sees e held =
-      ap (λ (l : List Touch). left_by l v.s6 c old) (accesses ts e) ∙ ap (left_by (made s t us) v.s6 c) held ∙ left-made v c sees
+      ap (λ (l : List Touch). after_touches l v.s6 c old) (accesses ts e) ∙ ap (after_touches (made s t us) v.s6 c) held ∙ left-made v c sees

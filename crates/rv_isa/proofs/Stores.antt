@@ -9,10 +9,10 @@ use Rattle.rv_base.specs.declared.instr.StoreKind.TheVariants as stores
 use Rattle.rv_base.specs.declared.instr.Instr.TheVariants.{Store}
 use Rattle.rv_spec.specs.Words.{Memory, byte, word, plus}
 use Rattle.rv_spec.specs.Step.{State, register, with_memory, store_width, store_value, store_word, advance, stops, execute}
-use Rattle.rv_spec.specs.Touches.{Use, use_of, use_register, where_aligned, uses}
-use Rattle.rv_spec.specs.Expected.{Expected, touch, reads_two, moves, pc_plus_4, merge, splice, expected_instr}
-use Rattle.rv_spec.specs.Agreement.{IsState}
-use Rattle.rv_spec.proofs.MemoryLaws.{word-stored}
+use Rattle.rv_spec.specs.Visits.{Use, use_of, use_register, where_aligned, uses}
+use Rattle.rv_rules.specs.Expected.{Expected, touch, reads_two, moves, pc_plus_4, merge, splice, expected_instr}
+use Rattle.rv_rules.specs.Agreement.{IsState}
+use Rattle.rv_rules.proofs.Lemmas.{word-stored}
 use Rattle.rv_isa.proofs.Uses.{Sees, Follows, made, sees-left, goes-on, aligned-follows}
 use Rattle.rv_isa.proofs.Registers.{reads-two, operand-first, operand-second}
 use Rattle.rv_isa.proofs.Loads.{word-of-address, word-seen, word-made}

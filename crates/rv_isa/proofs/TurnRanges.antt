@@ -6,26 +6,26 @@ use Rattle.rv_base.specs.declared.instr.AtomicOp.{AtomicOp}
 use Rattle.rv_base.specs.declared.instr.AtomicOp.TheVariants as amo
 use Rattle.rv_spec.specs.Words.{Memory, byte, bytes_from, store_bytes, AreBytes}
 use Rattle.rv_spec.specs.Decode.{AnyInstr, rv32im, rv32a, decode_any}
-use Rattle.rv_spec.specs.Step.{State, Turn, Next, Ends, register, within_word, stops, exits, return_in_a0, read_call, write_call, environment_call, execute, atomic_at, execute_atomic, execute_if, fetch_word, step}
-use Rattle.rv_spec.specs.Agreement.{IsState}
+use Rattle.rv_spec.specs.Step.{State, Transition, Next, Ends, register, within_word, stops, exits, return_in_a0, read_call, write_call, environment_call, execute, atomic_at, execute_atomic, execute_if, fetch_word, step}
+use Rattle.rv_rules.specs.Agreement.{IsState}
 use Rattle.rv_isa.specs.Ranges.{EndFits}
 use Rattle.rv_isa.proofs.WordRanges.{register-fits}
 use Rattle.rv_isa.proofs.ByteLists.{append-bytes}
 
 -- a step takes four bytes at most, puts bytes, and ends with an end in its ranges
-abbrev pub TurnFits : State → Turn → Type 0
+abbrev pub TurnFits : State → Transition → Type 0
 TurnFits s (Next t) = (t.position ≤ s.position + 4) × (AreBytes s.output → AreBytes t.output)
 TurnFits s (Ends e) = EndFits e
 
-choice-fits : (s : State) (b : Bool) (t u : Turn) → TurnFits s t → TurnFits s u → TurnFits s (cond b t u)
+choice-fits : (s : State) (b : Bool) (t u : Transition) → TurnFits s t → TurnFits s u → TurnFits s (cond b t u)
 choice-fits s true t u h k = h
 choice-fits s false t u h k = k
 
 stop-fits : (s : State) (kind : ℕ) → kind ≤ 5 → TurnFits s (stops kind)
-stop-fits s kind h = record { kind = h; code = omega arith; plain = inr refl }
+stop-fits s kind h = record { kind = h; code = omega arith; code_of_exit = inr refl }
 
 exit-fits : (s : State) (code : ℕ) → code < 2 ^ 32 → TurnFits s (exits code)
-exit-fits s code h = record { kind = omega arith; code = h; plain = inl refl }
+exit-fits s code h = record { kind = omega arith; code = h; code_of_exit = inl refl }
 
 -- a turn to a state with the same position and output
 quiet-fits : (s t : State) → t.position ≡ s.position → t.output ≡ s.output → TurnFits s (Next t)

@@ -4,19 +4,19 @@ use Rattle.std.proofs.lemmas.List.{map-append}
 use Rattle.std.proofs.lemmas.Bool.{eqb-true}
 use Rattle.rv_base.specs.declared.record.Seen.{Seen}
 use Rattle.rv_base.specs.declared.record.Touch.{Touch}
-use Rattle.rv_spec.specs.Step.{State, Turn, Next, stops}
+use Rattle.rv_spec.specs.Step.{State, Transition, Next, stops}
 use Rattle.rv_spec.specs.Run.{state_after}
-use Rattle.rv_spec.specs.Touches.{Use, visit}
-use Rattle.rv_spec.specs.Expected.{Expected, goes_to, ends}
-use Rattle.rv_spec.specs.Agreement.{GoesAs, touch_of}
-pub use Rattle.rv_isa.specs.Sees.{in_slot, Sees}
+use Rattle.rv_spec.specs.Visits.{Use, visit}
+use Rattle.rv_rules.specs.Expected.{Expected, goes_to, ends}
+use Rattle.rv_rules.specs.Agreement.{GoesAs, touch_of}
+pub use Rattle.rv_isa.specs.Sees.{seen_in, Sees}
 
 -- the accesses of a step from one state to another
 abbrev pub made : State → State → List Use → List Touch
 made s t us = map (λ u. touch_of (visit s t u)) us
 
 -- the expected step, without its fetch, makes the accesses and goes as the machine does
-abbrev pub Follows : Expected → State → Turn → List Use → Type 0
+abbrev pub Follows : Expected → State → Transition → List Use → Type 0
 Follows e s turn us = (e.touches ≡ made s (state_after s turn) us) × GoesAs e s turn
 
 pub sees-left : (v : Seen) (s : State) (us vs : List Use) → Sees v s (us ++ vs) → Sees v s us

@@ -4,8 +4,8 @@ use Rattle.std.proofs.lemmas.Bool.{eq-eqb, lt-ltb, le-ltb, cases_lt, cases_order
 use Rattle.rv_spec.specs.Decode.{decode_any}
 use Rattle.rv_spec.specs.Step.{State, fetch_word}
 use Rattle.rv_spec.specs.Cells.{is_cell, reservation_cell}
-use Rattle.rv_spec.specs.Touches.{Use, instruction_uses, step_uses}
-use Rattle.rv_spec.specs.Agreement.{IsState}
+use Rattle.rv_spec.specs.Visits.{Use, instruction_uses, step_uses}
+use Rattle.rv_rules.specs.Agreement.{IsState}
 use Rattle.rv_isa.specs.Ranges.{AreCells}
 use Rattle.rv_isa.proofs.Placed.{IsPlaced, ArePlaced, uses-placed}
 

@@ -4,7 +4,7 @@ use Rattle.std.specs.List.{AllByRecursion}
 use Rattle.std.specs.Int.{w32, from_le_bytes}
 use Rattle.rv_spec.specs.Words.{Memory, byte, bytes_from, word}
 use Rattle.rv_spec.specs.Step.{State, register}
-use Rattle.rv_spec.specs.Agreement.{IsState}
+use Rattle.rv_rules.specs.Agreement.{IsState}
 
 abbrev pub IsWord : ℕ → Type 0
 IsWord n = n < 2 ^ 32

@@ -4,24 +4,24 @@ use Rattle.rv_base.specs.declared.record.Touch.{Touch}
 use Rattle.rv_spec.specs.Step.{State}
 use Rattle.rv_spec.specs.Cells.{is_cell, value}
 use Rattle.rv_isa.specs.declared.cells.Cells.{Cells}
-use Rattle.rv_isa.specs.Kept.{cell_of}
+use Rattle.rv_isa.specs.MachineState.{stored_value}
 
-abbrev pub held : Cells → ℕ → ℕ
-held m c = cell_of m.image m.written.entries m.registers c
+abbrev pub cell_value : Cells → ℕ → ℕ
+cell_value m c = stored_value m.image m.written.entries m.registers c
 
 -- the cells hold what a state holds
-abbrev pub Holds : Cells → State → Type 0
-Holds m s = (c : ℕ) → IsTrue (is_cell 2 c) → held m c ≡ value s c
+abbrev pub CellsRepresent : Cells → State → Type 0
+CellsRepresent m s = (c : ℕ) → IsTrue (is_cell 2 c) → cell_value m c ≡ value s c
 
 -- nothing changed
-pub record IsSame (m n : Cells) : Type 0 where
+pub record AreUnchanged (m n : Cells) : Type 0 where
   pub image : n.image ≡ m.image
   pub written : n.written.entries ≡ m.written.entries
   pub registers : n.registers ≡ m.registers
 
 -- the cells of registers, and of the reservation
-abbrev pub IsRegister : ℕ → Type 0
-IsRegister c = (2 ^ 30 ≤ c) × (c < 2 ^ 30 + 33)
+abbrev pub IsRegisterCell : ℕ → Type 0
+IsRegisterCell c = (2 ^ 30 ≤ c) × (c < 2 ^ 30 + 33)
 
 -- the access in a slot
 abbrev pub access_in : List Touch → ℕ → Option Touch
@@ -33,16 +33,16 @@ if_changed word None = None
 if_changed word (Some t) = if t.new == word then None else Some t
 
 -- the value v of a cell after an access, if there is one
-abbrev pub after : Option Touch → ℕ → ℕ → ℕ
-after None c v = v
-after (Some t) c v = if c == t.cell then t.new else v
+abbrev pub after_touch : Option Touch → ℕ → ℕ → ℕ
+after_touch None c v = v
+after_touch (Some t) c v = if c == t.cell then t.new else v
 
 -- the value v of a cell after the accesses in slots 6 to 8, where the one of slot 6 finds the word
-abbrev pub left_by : List Touch → ℕ → ℕ → ℕ → ℕ
-left_by touches word c v = after (access_in touches 8) c (after (access_in touches 7) c (after (if_changed word (access_in touches 6)) c v))
+abbrev pub after_touches : List Touch → ℕ → ℕ → ℕ → ℕ
+after_touches touches word c v = after_touch (access_in touches 8) c (after_touch (access_in touches 7) c (after_touch (if_changed word (access_in touches 6)) c v))
 
 -- the cell of slot 6 is a word of memory, and those of slots 7 and 8 are not
 pub record ArePlaced (touches : List Touch) : Type 0 where
   pub word : (t : Touch) → access_in touches 6 ≡ Some t → t.cell < 2 ^ 30
-  pub register : (t : Touch) → access_in touches 7 ≡ Some t → IsRegister t.cell
-  pub reservation : (t : Touch) → access_in touches 8 ≡ Some t → IsRegister t.cell
+  pub register : (t : Touch) → access_in touches 7 ≡ Some t → IsRegisterCell t.cell
+  pub reservation : (t : Touch) → access_in touches 8 ≡ Some t → IsRegisterCell t.cell

@@ -1,11 +1,11 @@
-pub mod Given
-pub mod Kept
+pub mod Represented
+pub mod MachineState
 pub mod Cells
 pub mod Fields
 pub mod Operands
 pub mod Sees
 pub mod Machine
-pub mod Shown
+pub mod MachineView
 pub mod Follows
 pub mod Shape
 pub mod Ranges

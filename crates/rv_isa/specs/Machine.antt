@@ -6,39 +6,39 @@ use Rattle.rv_spec.specs.Step as spec
 use Rattle.rv_spec.specs.Step.{State, start}
 use Rattle.rv_spec.specs.Run.{run, EndsIn}
 use Rattle.rv_spec.specs.Cells.{is_cell, value}
-use Rattle.rv_spec.specs.Agreement.{IsState}
+use Rattle.rv_rules.specs.Agreement.{IsState}
 use Rattle.rv_isa.specs.declared.machine.Turn.{Turn}
 use Rattle.rv_isa.specs.declared.machine.Turn.TheVariants.{Next, Ends}
 use Rattle.rv_isa.specs.declared.machine.Ran.{Ran}
-use Rattle.rv_isa.specs.Kept.{Kept, kept}
+use Rattle.rv_isa.specs.MachineState.{MachineState, machine_value}
 
 -- The machine stands for a state: it keeps what the state has, and in each cell what the state holds there.
-pub record Shows (m : Kept) (s : State) : Type 0 where
+pub record Represents (m : MachineState) (s : State) : Type 0 where
   pub version : m.image.version ≡ s.version
   pub pc : m.pc ≡ s.pc
   pub position : m.position ≡ s.position
   pub output : m.output ≡ s.output
-  pub cells : (c : ℕ) → IsTrue (is_cell 2 c) → kept m c ≡ value s c
+  pub cells : (c : ℕ) → IsTrue (is_cell 2 c) → machine_value m c ≡ value s c
   pub ranges : IsState s
   pub within : s.position ≤ length m.input
 
 -- a machine that has taken no step: it has not ended, and stands for the state before the first one
-abbrev pub IsFresh : Kept → Type 0
-IsFresh m = (m.ended ≡ None) × Shows m (start m.image)
+abbrev pub IsFresh : MachineState → Type 0
+IsFresh m = (m.ended ≡ None) × Represents m (start m.image)
 
 -- A turn is that of the definition. The machine stands for the state that it leads to, or stays at the state whose step ends the run.
-abbrev pub Takes : spec.Turn → State → Turn → Kept → Type 0
-Takes (spec.Next t) s turn m = (turn ≡ Next) × (m.ended ≡ None) × Shows m t
-Takes (spec.Ends e) s turn m = (turn ≡ Ends e) × (m.ended ≡ Some e) × Shows m s
+abbrev pub TakesStep : spec.Transition → State → Turn → MachineState → Type 0
+TakesStep (spec.Next t) s turn m = (turn ≡ Next) × (m.ended ≡ None) × Represents m t
+TakesStep (spec.Ends e) s turn m = (turn ≡ Ends e) × (m.ended ≡ Some e) × Represents m s
 
 -- What a run within a budget is: the number of its steps, its end, the input bytes that it took and the output.
-pub record IsRan (i : Image) (input : List ℕ) (budget : ℕ) (r : Ran) : Type 0 where
+pub record IsRunOf (i : Image) (input : List ℕ) (budget : ℕ) (r : Ran) : Type 0 where
   pub ends : EndsIn i input r.steps r.end
   pub within : r.steps ≤ budget
   pub consumed : r.consumed ≡ (run i input r.steps).position
   pub output : r.output ≡ (run i input r.steps).output
 
 -- what is true of every machine: its input is bytes, and it stands for some state
-pub record IsSound (m : Kept) : Type 0 where
+pub record RepresentsSomeState (m : MachineState) : Type 0 where
   pub bytes : AreBytes m.input
-  pub stands : ∥ ((s : State) × Shows m s) ∥₁
+  pub stands : ∥ ((s : State) × Represents m s) ∥₁

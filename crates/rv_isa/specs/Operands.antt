@@ -3,7 +3,7 @@ use Rattle.std.specs.Prelude.{◌≡◌, ℕ, ◌/◌, ◌^◌, ◌<◌, Option,
 use Rattle.rv_spec.specs.Words.{plus}
 use Rattle.rv_spec.specs.Step.{State, register}
 use Rattle.rv_spec.specs.Cells.{register_cell, reservation_cell}
-use Rattle.rv_spec.specs.Touches.{Use}
+use Rattle.rv_spec.specs.Visits.{Use}
 use Rattle.rv_isa.specs.declared.operands.Address.{Address}
 use Rattle.rv_isa.specs.declared.operands.Operands.{Operands}
 

@@ -6,8 +6,8 @@ use Rattle.rv_spec.specs.Words.{AreBytes}
 use Rattle.rv_spec.specs.Elf.{Image}
 use Rattle.rv_spec.specs.Run.{run, end_at}
 use Rattle.rv_spec.specs.Cells.{is_cell, value}
-use Rattle.rv_spec.specs.Touches.{Use, step_uses}
-use Rattle.rv_spec.specs.Agreement.{IsProgram}
+use Rattle.rv_spec.specs.Visits.{Use, step_uses}
+use Rattle.rv_rules.specs.Agreement.{IsProgram}
 
 -- the slots rise from lo on, and all are below hi
 abbrev pub Rises : ℕ → ℕ → List Use → Type 0
@@ -22,7 +22,7 @@ AreCells version us = AllByRecursion (λ u. IsTrue (is_cell version u.cell) × (
 pub record EndFits (e : End) : Type 0 where
   pub kind : e.kind ≤ 5
   pub code : e.code < 2 ^ 32
-  pub plain : (e.kind ≡ 0) ⊎ (e.code ≡ 0)
+  pub code_of_exit : (e.kind ≡ 0) ⊎ (e.code ≡ 0)
 
 -- the state after n steps of a run, and its step
 pub record StepFits (i : Image) (input : List ℕ) (n : ℕ) : Type 0 where

@@ -4,12 +4,12 @@ use Rattle.std.specs.List.{AllByRecursion}
 use Rattle.rv_base.specs.declared.record.Seen.{Seen}
 use Rattle.rv_spec.specs.Step.{State}
 use Rattle.rv_spec.specs.Cells.{value}
-use Rattle.rv_spec.specs.Touches.{Use}
+use Rattle.rv_spec.specs.Visits.{Use}
 
 -- the old value in a slot
-abbrev pub in_slot : Seen → ℕ → ℕ
-in_slot v j = if j == 1 then v.s1 else (if j == 2 then v.s2 else (if j == 3 then v.s3 else (if j == 4 then v.s4 else (if j == 5 then v.s5 else (if j == 6 then v.s6 else (if j == 7 then v.s7 else v.s8))))))
+abbrev pub seen_in : Seen → ℕ → ℕ
+seen_in v j = if j == 1 then v.s1 else (if j == 2 then v.s2 else (if j == 3 then v.s3 else (if j == 4 then v.s4 else (if j == 5 then v.s5 else (if j == 6 then v.s6 else (if j == 7 then v.s7 else v.s8))))))
 
 -- the old values are those that the state holds
 abbrev pub Sees : Seen → State → List Use → Type 0
-Sees v s us = AllByRecursion (λ u. in_slot v u.slot ≡ value s u.cell) us
+Sees v s us = AllByRecursion (λ u. seen_in v u.slot ≡ value s u.cell) us

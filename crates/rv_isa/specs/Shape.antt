@@ -2,12 +2,12 @@
 use Rattle.std.specs.Prelude.{◌≡◌, ℕ, ◌+◌, ◌<◌, ◌≤◌, ◌^◌, List, [], ◌∷◌}
 use Rattle.rv_base.specs.declared.record.Seen.{Seen}
 use Rattle.rv_base.specs.declared.record.Touch.{Touch}
-use Rattle.rv_spec.specs.Expected.{expected}
-use Rattle.rv_isa.specs.Sees.{in_slot}
+use Rattle.rv_rules.specs.Expected.{expected}
+use Rattle.rv_isa.specs.Sees.{seen_in}
 
 -- an access in slots 1 to 5 only reads, so it leaves what it finds; slot 6 has a word of memory, slot 7 a register, slot 8 the reservation
 pub record IsSlotted (v : Seen) (t : Touch) : Type 0 where
-  pub keeps : t.slot ≤ 5 → t.new ≡ in_slot v t.slot
+  pub keeps : t.slot ≤ 5 → t.new ≡ seen_in v t.slot
   pub word : t.slot ≡ 6 → t.cell < 2 ^ 30
   pub register : t.slot ≡ 7 → (2 ^ 30 < t.cell) × (t.cell < 2 ^ 30 + 32)
   pub reservation : t.slot ≡ 8 → t.cell ≡ 2 ^ 30 + 32

@@ -2,7 +2,7 @@
 
 ghost use Rattle.std.specs.Prelude.{◌≡◌, ◌+◌, ◌++◌, ◌<◌, ◌≤◌};
 ghost use Rattle.arrayvec.specs.ArrayVec.{array_vec_len};
-ghost use Rattle.rv_spec.specs.Expected as isa;
+ghost use Rattle.rv_rules.specs.Expected as isa;
 
 use arrayvec::ArrayVec;
 use rv_base::{Seen, Touch};

@@ -2,8 +2,8 @@
 
 ghost use Rattle.std.specs.Prelude.{◌≡◌, ◌%◌, ◌++◌, ◌≤◌};
 ghost use Rattle.arrayvec.specs.ArrayVec.{array_vec_len};
-ghost use Rattle.rv_spec.specs.Expected as isa;
-ghost use Rattle.rv_isa.specs.Given.{Makes, conditional_writes};
+ghost use Rattle.rv_rules.specs.Expected as isa;
+ghost use Rattle.rv_isa.specs.Represented.{AppendsExpected, conditional_writes};
 
 use crate::accesses::{Touches, on_register, operand, read_two, touch};
 use crate::outcome::{Outcome, pc_plus_4};
@@ -14,10 +14,10 @@ use rv_base::{Atomic, AtomicOp, Seen};
 const RESERVATION_CELL: u32 = 0x4000_0020;
 
 /// The expected step of an atomic instruction.
-#[tactic(auto, unfolding(rv_spec::specs::Expected::expected_atomic), using(crate::proofs::Made::made))]
+#[tactic(auto, unfolding(rv_rules::specs::Expected::expected_atomic), using(crate::proofs::Made::made))]
 pub(crate) fn atomic(touches: &mut Touches, pc: u32, atomic: Atomic, seen: &Seen) -> Outcome
     requires { array_vec_len touches.old ≤ 1 }
-    ensures { Makes (isa.expected_atomic pc atomic seen.now) touches.old.items touches.new.items result }
+    ensures { AppendsExpected (isa.expected_atomic pc atomic seen.now) touches.old.items touches.new.items result }
 {
     let address = operand(atomic.rs1, seen.s2);
     let value = operand(atomic.rs2, seen.s3);

@@ -3,11 +3,11 @@
 ghost use Rattle.std.specs.Prelude.{[], ℕ, List, ◌≡◌, ◌+◌, ◌^◌, ◌<◌, ◌==◌, if◌then◌else◌, find, IsTrue, OnOk, OnErr, Option, Some};
 ghost use Rattle.rv_spec.specs.Words.{plus};
 ghost use Rattle.rv_spec.specs.Step.{State};
-ghost use Rattle.rv_spec.specs.Expected.{operand as operand_of};
-ghost use Rattle.rv_spec.specs.Touches.{step_uses};
+ghost use Rattle.rv_rules.specs.Expected.{operand as operand_of};
+ghost use Rattle.rv_spec.specs.Visits.{step_uses};
 ghost use Rattle.rv_spec.specs.Cells.{is_cell, initial_value, value};
-ghost use Rattle.rv_spec.specs.Agreement.{IsState};
-ghost use Rattle.rv_isa.specs.Cells.{held, after, if_changed, access_in, left_by, ArePlaced, Holds, IsRegister, IsSame};
+ghost use Rattle.rv_rules.specs.Agreement.{IsState};
+ghost use Rattle.rv_isa.specs.Cells.{cell_value, after_touch, if_changed, access_in, after_touches, ArePlaced, CellsRepresent, IsRegisterCell, AreUnchanged};
 ghost use Rattle.rv_isa.specs.Operands.{word_at, IsBased};
 ghost use Rattle.rv_isa.specs.Sees.{Sees};
 
@@ -41,7 +41,7 @@ impl<'a> Cells<'a> {
     /// The cells before the first step.
     pub fn start(alloc: Global, image: Image<'a>) -> Cells<'a>
         ensures image { result.image ≡ image.entry }
-        ensures begun { (c : ℕ) → IsTrue (is_cell 2 c) → held result c ≡ initial_value image.entry c }
+        ensures begun { (c : ℕ) → IsTrue (is_cell 2 c) → cell_value result c ≡ initial_value image.entry c }
     {
         let mut registers = [0; 33];
         registers[2] = STACK;
@@ -54,7 +54,7 @@ impl<'a> Cells<'a> {
 
     /// What a cell holds. A number that is no cell's has 0.
     pub fn get(&self, cell: u32) -> u32
-        ensures { result ≡ held self.now cell }
+        ensures { result ≡ cell_value self.now cell }
     {
         if cell < REGISTER_CELLS {
             self.word(cell)
@@ -65,7 +65,7 @@ impl<'a> Cells<'a> {
 
     /// The old values that the step at `pc` finds in its slots. A slot that it doesn't use may have any value.
     pub fn see(&self, pc: u32) -> Seen
-        ensures { (input : List ℕ) (s : State) → IsState s → Holds self.now s → s.version ≡ self.now.image.version → s.pc ≡ pc → Sees result s (step_uses input s) }
+        ensures { (input : List ℕ) (s : State) → IsState s → CellsRepresent self.now s → s.version ≡ self.now.image.version → s.pc ≡ pc → Sees result s (step_uses input s) }
     {
         let word = self.get(pc / 4);
         let operands = Operands::of_word(self.image.version(), word);
@@ -83,7 +83,7 @@ impl<'a> Cells<'a> {
 
     /// The word of memory at an address, if there is one.
     fn addressed(&self, address: Option<Address>) -> u32
-        ensures { (s : State) → IsState s → Holds self.now s → IsBased address → word_at s address < 2 ^ 30 → result ≡ value s (word_at s address) }
+        ensures { (s : State) → IsState s → CellsRepresent self.now s → IsBased address → word_at s address < 2 ^ 30 → result ≡ value s (word_at s address) }
     {
         match address {
             Some(address) => self.get(self.byte_address(address) / 4),
@@ -93,7 +93,7 @@ impl<'a> Cells<'a> {
 
     /// The number of the byte at an address.
     fn byte_address(&self, address: Address) -> u32
-        ensures { result ≡ plus (operand_of address.base (held self.now (2 ^ 30 + address.base))) address.offset }
+        ensures { result ≡ plus (operand_of address.base (cell_value self.now (2 ^ 30 + address.base))) address.offset }
     {
         let base = operand(address.base, self.register(address.base as usize));
         offset(base, address.offset)
@@ -102,7 +102,7 @@ impl<'a> Cells<'a> {
     /// Word `w` of memory.
     fn word(&self, w: u32) -> u32
         requires { w < 2 ^ 30 }
-        ensures { result ≡ held self.now w }
+        ensures { result ≡ cell_value self.now w }
     {
         match self.written.get(&w).copied() {
             Some(word) => word,
@@ -112,7 +112,7 @@ impl<'a> Cells<'a> {
 
     /// A register, or the reservation behind them.
     fn register(&self, index: usize) -> u32
-        ensures { result ≡ held self.now (2 ^ 30 + index) }
+        ensures { result ≡ cell_value self.now (2 ^ 30 + index) }
     {
         self.registers.get(index).copied().unwrap_or(0)
     }
@@ -121,8 +121,8 @@ impl<'a> Cells<'a> {
     fn set_word(&mut self, w: u32, value: u32) -> Result<(), NoMemory>
         requires { w < 2 ^ 30 }
         ensures image { self.new.image ≡ self.old.image }
-        ensures ok { OnOk result ((c : ℕ) → held self.new c ≡ (if c == w then value else held self.old c)) }
-        ensures err { OnErr result (IsSame self.old self.new) }
+        ensures ok { OnOk result ((c : ℕ) → cell_value self.new c ≡ (if c == w then value else cell_value self.old c)) }
+        ensures err { OnErr result (AreUnchanged self.old self.new) }
     {
         match self.written.insert(w, value) {
             Ok(_) => Ok(()),
@@ -132,9 +132,9 @@ impl<'a> Cells<'a> {
 
     /// Sets a register or the reservation.
     fn set_register(&mut self, cell: u32, value: u32)
-        requires { IsRegister cell }
+        requires { IsRegisterCell cell }
         ensures image { self.new.image ≡ self.old.image }
-        ensures set { (c : ℕ) → held self.new c ≡ (if c == cell then value else held self.old c) }
+        ensures set { (c : ℕ) → cell_value self.new c ≡ (if c == cell then value else cell_value self.old c) }
     {
         self.registers[(cell - REGISTER_CELLS) as usize] = value;
     }
@@ -143,8 +143,8 @@ impl<'a> Cells<'a> {
     pub fn apply(&mut self, touches: &[Touch], word: u32) -> Result<(), NoMemory>
         requires { ArePlaced touches.now }
         ensures image { self.new.image ≡ self.old.image }
-        ensures ok { OnOk result ((c : ℕ) → held self.new c ≡ left_by touches.now word c (held self.old c)) }
-        ensures err { OnErr result (IsSame self.old self.new) }
+        ensures ok { OnOk result ((c : ℕ) → cell_value self.new c ≡ after_touches touches.now word c (cell_value self.old c)) }
+        ensures err { OnErr result (AreUnchanged self.old self.new) }
     {
         self.store(in_slot(touches, 6), word)?;
         self.write(in_slot(touches, 7));
@@ -156,8 +156,8 @@ impl<'a> Cells<'a> {
     fn store(&mut self, touch: Option<Touch>, word: u32) -> Result<(), NoMemory>
         requires { (t : Touch) → touch ≡ Some t → t.cell < 2 ^ 30 }
         ensures image { self.new.image ≡ self.old.image }
-        ensures ok { OnOk result ((c : ℕ) → held self.new c ≡ after (if_changed word touch) c (held self.old c)) }
-        ensures err { OnErr result (IsSame self.old self.new) }
+        ensures ok { OnOk result ((c : ℕ) → cell_value self.new c ≡ after_touch (if_changed word touch) c (cell_value self.old c)) }
+        ensures err { OnErr result (AreUnchanged self.old self.new) }
     {
         match touch {
             Some(touch) if touch.new != word => self.set_word(touch.cell, touch.new),
@@ -167,9 +167,9 @@ impl<'a> Cells<'a> {
 
     /// Writes a register or the reservation, if there is an access.
     fn write(&mut self, touch: Option<Touch>)
-        requires { (t : Touch) → touch ≡ Some t → IsRegister t.cell }
+        requires { (t : Touch) → touch ≡ Some t → IsRegisterCell t.cell }
         ensures image { self.new.image ≡ self.old.image }
-        ensures set { (c : ℕ) → held self.new c ≡ after touch c (held self.old c) }
+        ensures set { (c : ℕ) → cell_value self.new c ≡ after_touch touch c (cell_value self.old c) }
     {
         if let Some(touch) = touch {
             self.set_register(touch.cell, touch.new);

@@ -3,9 +3,9 @@
 ghost use Rattle.std.specs.Prelude.{[], ℕ, ◌≡◌, ◌+◌, ◌-◌, ◌/◌, ◌%◌, ◌^◌, ◌++◌, ◌<◌, ◌≤◌, length, min, take, drop, replicate};
 ghost use Rattle.std.specs.Int.{w32, to_le_bytes};
 ghost use Rattle.arrayvec.specs.ArrayVec.{array_vec_len};
-ghost use Rattle.rv_spec.specs.Expected as isa;
+ghost use Rattle.rv_rules.specs.Expected as isa;
 ghost use Rattle.rv_spec.specs.Step.{within_word};
-ghost use Rattle.rv_isa.specs.Given.{Makes};
+ghost use Rattle.rv_isa.specs.Represented.{AppendsExpected};
 
 use crate::accesses::{Touches, on_register, read_two, touch};
 use crate::outcome::{Outcome, pc_plus_4};
@@ -16,11 +16,11 @@ const BAD_DESCRIPTOR: u32 = 0xFFFF_FFF7;
 const NO_SUCH_CALL: u32 = 0xFFFF_FFDA;
 
 /// The expected step of a call of the environment.
-#[tactic(auto, unfolding(rv_spec::specs::Expected::expected_call), using(crate::proofs::Made::made))]
+#[tactic(auto, unfolding(rv_rules::specs::Expected::expected_call), using(crate::proofs::Made::made))]
 pub(crate) fn call(touches: &mut Touches, pc: u32, seen: &Seen, input: &[u8], at: u64) -> Outcome
     requires room { array_vec_len touches.old ≤ 1 }
     requires within { at ≤ length input.now }
-    ensures { Makes (isa.expected_call input.now at pc seen.now) touches.old.items touches.new.items result }
+    ensures { AppendsExpected (isa.expected_call input.now at pc seen.now) touches.old.items touches.new.items result }
 {
     match seen.s2 {
         93 | 94 => {
@@ -39,7 +39,7 @@ pub(crate) fn call(touches: &mut Touches, pc: u32, seen: &Seen, input: &[u8], at
 /// The call returns a value in x10, and the run goes on.
 fn answer(touches: &mut Touches, pc: u32, value: u32) -> Outcome
     requires { array_vec_len touches.old < 8 }
-    ensures { Makes (isa.expected_return pc [] value) touches.old.items touches.new.items result }
+    ensures { AppendsExpected (isa.expected_return pc [] value) touches.old.items touches.new.items result }
 {
     on_register(touches, 7, 10, value);
     Outcome::goes_to(pc_plus_4(pc))
@@ -76,7 +76,7 @@ fn on_buffer(touches: &mut Touches, buffer: u32, count: u32, new: u32)
 }
 
 /// The word with these bytes from byte `lane` on.
-#[tactic(auto, unfolding(rv_spec::specs::Expected::splice))]
+#[tactic(auto, unfolding(rv_rules::specs::Expected::splice))]
 fn splice(word: u32, lane: u32, bytes: &[u8]) -> u32
     requires { lane + length bytes.now ≤ 4 }
     ensures { result ≡ isa.splice word lane bytes.now }
@@ -104,7 +104,7 @@ fn from_lane(word: u32, lane: u32, count: u32) -> u32
 fn read(touches: &mut Touches, pc: u32, seen: &Seen, input: &[u8], at: u64) -> Outcome
     requires room { array_vec_len touches.old ≤ 1 }
     requires within { at ≤ length input.now }
-    ensures { Makes (isa.expected_read input.now at pc seen.now) touches.old.items touches.new.items result }
+    ensures { AppendsExpected (isa.expected_read input.now at pc seen.now) touches.old.items touches.new.items result }
 {
     arguments(touches, seen);
     if seen.s3 != 0 {
@@ -124,7 +124,7 @@ fn read(touches: &mut Touches, pc: u32, seen: &Seen, input: &[u8], at: u64) -> O
 #[tactic(auto, using(crate::proofs::Made::made))]
 fn write(touches: &mut Touches, pc: u32, seen: &Seen) -> Outcome
     requires { array_vec_len touches.old ≤ 1 }
-    ensures { Makes (isa.expected_write pc seen.now) touches.old.items touches.new.items result }
+    ensures { AppendsExpected (isa.expected_write pc seen.now) touches.old.items touches.new.items result }
 {
     arguments(touches, seen);
     match seen.s3 {

@@ -4,8 +4,8 @@ ghost use Rattle.std.specs.Prelude.{◌==◌, if◌then◌else◌, ◌≡◌, �
 ghost use Rattle.arrayvec.specs.ArrayVec.{array_vec_len};
 ghost use Rattle.rv_spec.specs.Decode as spec;
 ghost use Rattle.rv_spec.specs.Decode.{decode_any};
-ghost use Rattle.rv_spec.specs.Expected as isa;
-ghost use Rattle.rv_isa.specs.Given.{Gives, Makes};
+ghost use Rattle.rv_rules.specs.Expected as isa;
+ghost use Rattle.rv_isa.specs.Represented.{RepresentsExpected, AppendsExpected};
 
 use crate::accesses::{Touches, touch};
 use crate::atomic::atomic;
@@ -32,12 +32,12 @@ pub struct Expected {
 /// The step at `pc` and a position of the input, in a version of the machine: 1 for RV32IM, 2 for
 /// RV32IMA (RISC-V Unprivileged ISA). `seen` has the old value in each slot, with the instruction
 /// word in slot 1. It knows nothing else of registers and memory.
-#[tactic(auto, unfolding(rv_spec::specs::Expected::expected))]
+#[tactic(auto, unfolding(rv_rules::specs::Expected::expected))]
 pub fn expect(version: u8, pc: u32, seen: &Seen, input: &[u8], at: u64) -> Expected
     requires version { (version ≡ 1) ⊎ (version ≡ 2) }
     requires aligned { pc % 4 ≡ 0 }
     requires within { at ≤ length input.now }
-    ensures { Gives (isa.expected version pc seen.now input.now at) result }
+    ensures { RepresentsExpected (isa.expected version pc seen.now input.now at) result }
 {
     let mut touches = ArrayVec::new();
     touch(&mut touches, 1, pc / 4, seen.s1);
@@ -63,7 +63,7 @@ fn after_fetch(
 ) -> Outcome
     requires room { array_vec_len touches.old ≤ 1 }
     requires within { at ≤ length input.now }
-    ensures { Makes (isa.expected_any input.now at pc (decode_any version seen.now.s1) seen.now) touches.old.items touches.new.items result }
+    ensures { AppendsExpected (isa.expected_any input.now at pc (decode_any version seen.now.s1) seen.now) touches.old.items touches.new.items result }
 {
     match decode(seen.s1) {
         Some(Instr::Ecall) => call(touches, pc, seen, input, at),

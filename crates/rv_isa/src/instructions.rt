@@ -3,10 +3,10 @@
 ghost use Rattle.std.specs.Prelude.{[], ℕ, List, ◌≡◌, ◌+◌, ◌/◌, ◌%◌, ◌++◌, ◌<◌, ◌≤◌};
 ghost use Rattle.std.specs.Int.{w32, cast_unsigned};
 ghost use Rattle.arrayvec.specs.ArrayVec.{array_vec_len};
-ghost use Rattle.rv_spec.specs.Expected as isa;
+ghost use Rattle.rv_rules.specs.Expected as isa;
 ghost use Rattle.rv_spec.specs.Step as step;
 ghost use Rattle.rv_spec.specs.Words.{plus};
-ghost use Rattle.rv_isa.specs.Given.{Makes, loads, stores};
+ghost use Rattle.rv_isa.specs.Represented.{AppendsExpected, expected_load, expected_store};
 
 use crate::accesses::{Touches, on_register, operand, read_one, read_two, touch};
 use crate::outcome::{Outcome, pc_plus_4};
@@ -14,11 +14,11 @@ use rv_alu::{compute, extract, merge, taken};
 use rv_base::{Instr, LoadKind, Seen, StoreKind};
 
 /// The expected step of an instruction that is no call of the environment.
-#[tactic(auto, unfolding(rv_spec::specs::Expected::expected_instr), using(crate::proofs::Made::made))]
+#[tactic(auto, unfolding(rv_rules::specs::Expected::expected_instr), using(crate::proofs::Made::made))]
 pub(crate) fn instruction(touches: &mut Touches, pc: u32, instr: Instr, seen: &Seen) -> Outcome
     requires room { array_vec_len touches.old ≤ 1 }
     requires no_call { ¬ (instr ≡ Instr.Ecall) }
-    ensures { (input : List ℕ) (at : ℕ) → Makes (isa.expected_instr input at pc instr seen.now) touches.old.items touches.new.items result }
+    ensures { (input : List ℕ) (at : ℕ) → AppendsExpected (isa.expected_instr input at pc instr seen.now) touches.old.items touches.new.items result }
 {
     match instr {
         Instr::Lui { rd, imm } => set_register(touches, pc, rd, imm),
@@ -80,7 +80,7 @@ pub(crate) fn offset(from: u32, distance: i32) -> u32
 /// A step that leaves a value in rd and goes on.
 fn set_register(touches: &mut Touches, pc: u32, rd: u8, value: u32) -> Outcome
     requires { array_vec_len touches.old < 8 }
-    ensures { Makes (isa.goes_to (isa.pc_plus_4 pc) (isa.on_register 7 rd value)) touches.old.items touches.new.items result }
+    ensures { AppendsExpected (isa.goes_to (isa.pc_plus_4 pc) (isa.on_register 7 rd value)) touches.old.items touches.new.items result }
 {
     on_register(touches, 7, rd, value);
     Outcome::goes_to(pc_plus_4(pc))
@@ -89,7 +89,7 @@ fn set_register(touches: &mut Touches, pc: u32, rd: u8, value: u32) -> Outcome
 /// A jump writes only where its target is aligned.
 fn jump(touches: &mut Touches, pc: u32, target: u32, rd: u8) -> Outcome
     requires { array_vec_len touches.old < 8 }
-    ensures { Makes (isa.jumps pc target [] (isa.on_register 7 rd (isa.pc_plus_4 pc))) touches.old.items touches.new.items result }
+    ensures { AppendsExpected (isa.jumps pc target [] (isa.on_register 7 rd (isa.pc_plus_4 pc))) touches.old.items touches.new.items result }
 {
     if target % 4 != 0 {
         return Outcome::ends(pc, 3, 0);
@@ -134,7 +134,7 @@ fn load(
     seen: &Seen,
 ) -> Outcome
     requires { array_vec_len touches.old ≤ 1 }
-    ensures { Makes (loads pc kind rd rs1 address seen.now) touches.old.items touches.new.items result }
+    ensures { AppendsExpected (expected_load pc kind rd rs1 address seen.now) touches.old.items touches.new.items result }
 {
     read_one(touches, seen, rs1);
     load_word(touches, pc, kind, rd, address, seen.s6)
@@ -151,7 +151,7 @@ fn load_word(
     word: u32,
 ) -> Outcome
     requires { array_vec_len touches.old < 7 }
-    ensures { Makes (isa.moves pc (step.load_width kind) address 4 [] (isa.touch 6 (address / 4) word ++ isa.on_register 7 rd (isa.extract kind word (address % 4)))) touches.old.items touches.new.items result }
+    ensures { AppendsExpected (isa.moves pc (step.load_width kind) address 4 [] (isa.touch 6 (address / 4) word ++ isa.on_register 7 rd (isa.extract kind word (address % 4)))) touches.old.items touches.new.items result }
 {
     if address % load_width(kind) != 0 {
         return Outcome::ends(pc, 4, 0);
@@ -173,7 +173,7 @@ fn store(
     seen: &Seen,
 ) -> Outcome
     requires { array_vec_len touches.old ≤ 1 }
-    ensures { Makes (stores pc kind rs1 rs2 address seen.now) touches.old.items touches.new.items result }
+    ensures { AppendsExpected (expected_store pc kind rs1 rs2 address seen.now) touches.old.items touches.new.items result }
 {
     read_two(touches, seen, rs1, rs2);
     store_word(touches, pc, kind, address, seen.s6, operand(rs2, seen.s3))
@@ -190,7 +190,7 @@ fn store_word(
     value: u32,
 ) -> Outcome
     requires { array_vec_len touches.old < 8 }
-    ensures { Makes (isa.moves pc (step.store_width kind) address 5 [] (isa.touch 6 (address / 4) (isa.merge kind word (address % 4) value))) touches.old.items touches.new.items result }
+    ensures { AppendsExpected (isa.moves pc (step.store_width kind) address 5 [] (isa.touch 6 (address / 4) (isa.merge kind word (address % 4) value))) touches.old.items touches.new.items result }
 {
     if address % store_width(kind) != 0 {
         return Outcome::ends(pc, 5, 0);

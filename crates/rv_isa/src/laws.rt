@@ -2,7 +2,7 @@
 
 ghost use Rattle.std.specs.Prelude.{ℕ, List};
 ghost use Rattle.rv_spec.specs.Elf.{Image};
-ghost use Rattle.rv_spec.specs.Agreement.{HoldsLastUses, RunsAreStates, StepsAgree};
+ghost use Rattle.rv_rules.specs.Agreement.{HoldsLastUses, RunsAreStates, StepsAgree};
 ghost use Rattle.rv_isa.specs.Follows.{SeenStepsFollow};
 ghost use Rattle.rv_isa.specs.Shape.{ExpectedIsShaped};
 ghost use Rattle.rv_isa.specs.Ranges.{RunsFit};

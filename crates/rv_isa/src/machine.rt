@@ -6,11 +6,12 @@ ghost use Rattle.rv_base.specs.declared.record.End.{End as EndOf};
 ghost use Rattle.rv_spec.specs.Step as spec;
 ghost use Rattle.rv_spec.specs.Step.{State};
 ghost use Rattle.rv_spec.specs.Run.{GoesOn};
-ghost use Rattle.rv_isa.specs.Cells.{held, left_by, ArePlaced, IsSame};
-ghost use Rattle.rv_isa.specs.Machine.{IsFresh, IsRan, Shows, Takes};
+ghost use Rattle.rv_isa.specs.Cells.{cell_value, after_touches, ArePlaced, AreUnchanged};
+ghost use Rattle.rv_isa.specs.Machine.{IsFresh, IsRunOf, Represents, TakesStep};
 
 use crate::cells::Cells;
 use crate::expected::{Expected, expect};
+use rv_base::limits::BUDGET_LIMIT;
 use rv_base::{Bytes, End, NoMemory};
 use rv_elf::Image;
 use std::alloc::Global;
@@ -52,15 +53,15 @@ pub struct Machine<'a> {
 }
 
 impl<'a> Model for Machine<'a> {
-    ghost use Rattle.rv_isa.specs.Kept.{Kept};
+    ghost use Rattle.rv_isa.specs.MachineState.{MachineState};
 
-    ghost Value = { Kept };
+    ghost Value = { MachineState };
 
-    ghost use Rattle.rv_isa.specs.Shown.{shown, IsShown};
+    ghost use Rattle.rv_isa.specs.MachineView.{machine_view, IsMachine};
 
-    ghost view = { shown };
+    ghost view = { machine_view };
 
-    ghost invariant = { IsShown };
+    ghost invariant = { IsMachine };
 }
 
 impl<'a> Machine<'a> {
@@ -84,7 +85,7 @@ impl<'a> Machine<'a> {
     pub fn step(&mut self) -> Result<Turn, NoMemory>
         ensures image { self.new.image ≡ self.old.image }
         ensures input { self.new.input ≡ self.old.input }
-        ensures ok { (s : State) → Shows self.old s → self.old.ended ≡ None → IfOk result (λ turn. Takes (spec.step self.old.input s) s turn self.new) }
+        ensures ok { (s : State) → Represents self.old s → self.old.ended ≡ None → IfOk result (λ turn. TakesStep (spec.step self.old.input s) s turn self.new) }
         ensures ended { (e : EndOf) → self.old.ended ≡ Some e → (result ≡ Ok (Turn.Ends e)) × (self.new ≡ self.old) }
         ensures err { OnErr result (self.new ≡ self.old) }
     {
@@ -113,8 +114,8 @@ impl<'a> Machine<'a> {
     /// within that many steps, the ending one counted.
     pub fn run(mut self, budget: u64) -> Result<Ran, RunStop>
         requires fresh { IsFresh self }
-        requires budget { IsInRange 1 8388608 budget }
-        ensures ok { IfOk result (IsRan self.entry.image self.entry.input budget) }
+        requires budget { IsInRange 1 BUDGET_LIMIT budget }
+        ensures ok { IfOk result (IsRunOf self.entry.image self.entry.input budget) }
         ensures err { IfErr result (λ stop. stop ≡ RunStop.Budget → GoesOn self.entry.image self.entry.input budget) }
     {
         for done in 0..budget {
@@ -150,9 +151,9 @@ fn carry_out(
     requires places { ArePlaced step.now.touches.items }
     requires most { step.now.put ≤ 4 }
     ensures image { cells.new.image ≡ cells.old.image }
-    ensures cells { OnOk result ((c : ℕ) → held cells.new c ≡ left_by step.now.touches.items word c (held cells.old c)) }
+    ensures cells { OnOk result ((c : ℕ) → cell_value cells.new c ≡ after_touches step.now.touches.items word c (cell_value cells.old c)) }
     ensures output { OnOk result (output.new.items ≡ output.old.items ++ take step.now.put (to_le_bytes w32 step.now.word)) }
-    ensures err { OnErr result (IsSame cells.old cells.new × (output.new.items ≡ output.old.items)) }
+    ensures err { OnErr result (AreUnchanged cells.old cells.new × (output.new.items ≡ output.old.items)) }
 {
     let length = output.len();
     let bytes = step.word.to_le_bytes();

@@ -3,9 +3,9 @@
 ghost use Rattle.std.specs.Prelude.{ℕ, List, ◌≡◌, ◌<◌};
 ghost use Rattle.std.specs.List.{AllByRecursion};
 ghost use Rattle.rv_spec.specs.Step.{State};
-ghost use Rattle.rv_spec.specs.Agreement.{IsState};
+ghost use Rattle.rv_rules.specs.Agreement.{IsState};
 ghost use Rattle.rv_spec.specs.Decode.{decode_any};
-ghost use Rattle.rv_spec.specs.Touches.{uses, atomic_uses, instruction_uses};
+ghost use Rattle.rv_spec.specs.Visits.{uses, atomic_uses, instruction_uses};
 ghost use Rattle.rv_isa.specs.Operands.{IsBased, IsCovered};
 ghost use Rattle.rv_isa.specs.Fields.{HasFields, HasAtomicFields};
 
@@ -57,7 +57,7 @@ impl Operands {
     }
 
     /// The operands of an instruction of RV32I or M.
-    #[tactic(auto, unfolding(rv_spec::specs::Touches::uses), using(crate::proofs::Covered::covering))]
+    #[tactic(auto, unfolding(rv_spec::specs::Visits::uses), using(crate::proofs::Covered::covering))]
     fn of_instruction(instr: Instr) -> Operands
         ensures based { HasFields instr → IsBased result.address }
         ensures covered { (input : List ℕ) (s : State) → IsState s → AllByRecursion (IsCovered result s) (uses input instr s) }
@@ -97,7 +97,7 @@ impl Operands {
     }
 
     /// The operands of an instruction of extension A.
-    #[tactic(auto, unfolding(rv_spec::specs::Touches::atomic_uses), using(crate::proofs::Covered::covering))]
+    #[tactic(auto, unfolding(rv_spec::specs::Visits::atomic_uses), using(crate::proofs::Covered::covering))]
     fn of_atomic(instr: Atomic) -> Operands
         ensures based { HasAtomicFields instr → IsBased result.address }
         ensures covered { (s : State) → IsState s → AllByRecursion (IsCovered result s) (atomic_uses instr s) }

@@ -1,7 +1,7 @@
 //! Where a step goes.
 
 ghost use Rattle.std.specs.Prelude.{[], ◌%◌, ◌^◌, ◌+◌, ◌≡◌, ◌≤◌, ℕ};
-ghost use Rattle.rv_spec.specs.Expected as isa;
+ghost use Rattle.rv_rules.specs.Expected as isa;
 
 use rv_base::End;
 

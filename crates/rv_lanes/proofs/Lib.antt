@@ -1,7 +1,7 @@
+pub mod Lemmas
 pub mod Cases
 pub mod ChMaj
 pub mod LaneLemmas
-pub mod Laws
 pub mod Numbers
 pub mod ShortMessages
 pub mod MoreTuples

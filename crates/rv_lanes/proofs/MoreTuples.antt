@@ -3,8 +3,9 @@ use Rattle.std.proofs.Common.{◌≡◌, ℕ, ◌+◌, ◌%◌, ◌^◌, List, [
 use Rattle.std.specs.Prelude.{slice_index}
 use Rattle.std.proofs.Math.Nat.{add-mod-mod}
 use Rattle.rv_base.specs.declared.record.Tuple.{Tuple}
-use Rattle.rv_spec.specs.Digest.{Lanes, lane_numbers, digest_lane, digest, add_lanes}
-use Rattle.rv_spec.proofs.DigestLaws.{digest-append}
+use Rattle.rv_spec.specs.Digest.{Lanes, lane_numbers, digest_lane, digest}
+use Rattle.rv_rules.specs.Sums.{add_lanes}
+use Rattle.rv_rules.proofs.Lemmas.{digest-append}
 
 reduced : (x n m : ℕ) → (x + n) % m ≡ (x + (0 + n) % m) % m
 reduced x n m = ap (λ k. (x + k) % m) (sym (zero-add n)) ∙ sym (add-mod-mod x (0 + n) m)

@@ -2,7 +2,8 @@
 
 ghost use Rattle.std.specs.Prelude.{◌≡◌, ◌∷◌, ◌++◌, List, []};
 ghost use Rattle.rv_base.specs.declared.record.Tuple.{Tuple};
-ghost use Rattle.rv_spec.specs.Digest.{add_lanes, digest, sha_lanes};
+ghost use Rattle.rv_rules.specs.Sums.{add_lanes};
+ghost use Rattle.rv_spec.specs.Digest.{digest, sha_lanes};
 
 use crate::two::lanes_of_two;
 use rv_base::Tuple;

@@ -12,13 +12,13 @@ use Rattle.rv_spec.specs.Elf.{Image}
 use Rattle.rv_spec.specs.Words.{word}
 use Rattle.rv_spec.specs.Step.{start, register}
 use Rattle.rv_spec.specs.Cells.{value, initial_value, is_cell, reservation_cell}
-use Rattle.rv_spec.specs.Form.{IsRising}
+use Rattle.rv_spec.specs.Grammar.{IsRising}
 use Rattle.rv_mem.specs.declared.word.Word.{Word}
 use Rattle.rv_mem.specs.declared.words.Words.{Words}
-use Rattle.rv_mem.specs.Contents.{Contents, entry_of, value_at, time_at, IsSet, IsTable}
-use Rattle.rv_mem.specs.Used.{no_word, if_used, used, word_at}
+use Rattle.rv_mem.specs.Contents.{Contents, entry_at, value_at, time_at, IsSet, IsTable}
+use Rattle.rv_mem.specs.Used.{no_word, if_used, used, listed_word}
 use Rattle.rv_mem.specs.Words.{first_word}
-use Rattle.rv_mem.specs.Kept.{kept, cell_of, contents, IsBegun}
+use Rattle.rv_mem.specs.StoredCells.{stored_word, stored_cell, contents, AreStoredCells}
 use Rattle.rv_mem.proofs.UsedLaws.{used-same, used-none, used-add, one_used}
 use Rattle.rv_mem.proofs.WordsLaws.{equal_or_not}
 
@@ -30,14 +30,14 @@ entry c w = record { cell = c; value = w.value; time = w.time }
 abbrev if_found : ℕ → Word → Option TableEntry
 if_found c w = cond (nat_lt 0 w.time) (Some (entry c w)) None
 
-entry-other : (a c : ℕ) (w : Word) → a ≢ c → entry_of (if_used a w) c ≡ None
-entry-other a c w n = elim (nat_lt 0 w.time) as (λ b. entry_of (cond b (entry a w ∷ []) []) c ≡ None) [
+entry-other : (a c : ℕ) (w : Word) → a ≢ c → entry_at (if_used a w) c ≡ None
+entry-other a c w n = elim (nat_lt 0 w.time) as (λ b. entry_at (cond b (entry a w ∷ []) []) c ≡ None) [
   | true ↦ ap (λ b. cond b (Some (entry a w)) None) (ne_eqb a c n)
   | false ↦ refl
 ]
 
-entry-same : (a c : ℕ) (w : Word) → a ≡ c → entry_of (if_used a w) c ≡ if_found a w
-entry-same a c w e = elim (nat_lt 0 w.time) as (λ b. entry_of (cond b (entry a w ∷ []) []) c ≡ cond b (Some (entry a w)) None) [
+entry-same : (a c : ℕ) (w : Word) → a ≡ c → entry_at (if_used a w) c ≡ if_found a w
+entry-same a c w e = elim (nat_lt 0 w.time) as (λ b. entry_at (cond b (entry a w ∷ []) []) c ≡ cond b (Some (entry a w)) None) [
   | true ↦ ap (λ b. cond b (Some (entry a w)) None) (eq-eqb a c e)
   | false ↦ refl
 ]
@@ -46,21 +46,21 @@ or-none : (o : Option TableEntry) → option_or o None ≡ o
 or-none None = refl
 or-none (Some x) = refl
 
-found-beyond : (f : ℕ → Word) (from n c : ℕ) → from + n ≤ c → entry_of (used f from n) c ≡ None
+found-beyond : (f : ℕ → Word) (from n c : ℕ) → from + n ≤ c → entry_at (used f from n) c ≡ None
 unfolding used
 found-beyond f from zero c h = refl
 found-beyond f from (suc n) c h =
     find-append (λ e. e.cell == c) (used f from n) (if_used (from + n) (f (from + n)))
     ∙ ap₂ option_or (found-beyond f from n c (omega arith)) (entry-other (from + n) c (f (from + n)) (λ e. absurd (omega arith)))
 
-found : (f : ℕ → Word) (from n c : ℕ) → from ≤ c → c < from + n → entry_of (used f from n) c ≡ if_found c (f c)
+found : (f : ℕ → Word) (from n c : ℕ) → from ≤ c → c < from + n → entry_at (used f from n) c ≡ if_found c (f c)
 unfolding used
 found f from zero c l h = absurd (omega arith)
 found f from (suc n) c l h =
     find-append (λ e. e.cell == c) (used f from n) (if_used (from + n) (f (from + n))) ∙ by (equal_or_not (from + n) c) (found f from n c l)
   where
-    by : (from + n ≡ c) ⊎ (from + n ≢ c) → (c < from + n → entry_of (used f from n) c ≡ if_found c (f c))
-        → option_or (entry_of (used f from n) c) (entry_of (if_used (from + n) (f (from + n))) c) ≡ if_found c (f c)
+    by : (from + n ≡ c) ⊎ (from + n ≢ c) → (c < from + n → entry_at (used f from n) c ≡ if_found c (f c))
+        → option_or (entry_at (used f from n) c) (entry_at (if_used (from + n) (f (from + n))) c) ≡ if_found c (f c)
     by (inl e) before =
         ap₂ option_or (found-beyond f from n c (omega arith)) (entry-same (from + n) c (f (from + n)) e)
         ∙ ap (λ k. if_found k (f k)) e
@@ -83,24 +83,24 @@ value-found c w v h = elim (nat_lt 0 w.time) as (λ b. nat_lt 0 w.time ≡ b →
 
 -- ---- what a memory holds in a cell
 
-pub time-kept : (m : Words) (r : List Word) (c : ℕ) → c < 1073741857 → time_at (contents m r) c ≡ (cell_of m r c).time
+pub time-kept : (m : Words) (r : List Word) (c : ℕ) → c < 1073741857 → time_at (contents m r) c ≡ (stored_cell m r c).time
 unfolding time_at
 time-kept m r c h =
-    ap (λ o. unwrap_or (option_map (λ (e : TableEntry). e.time) o) 0) (found (cell_of m r) 0 1073741857 c (omega arith) (omega arith)) ∙ time-found c (cell_of m r c)
+    ap (λ o. unwrap_or (option_map (λ (e : TableEntry). e.time) o) 0) (found (stored_cell m r) 0 1073741857 c (omega arith) (omega arith)) ∙ time-found c (stored_cell m r c)
 
-pub value-kept : (m : Words) (r : List Word) (c : ℕ) → IsBegun m r → c < 1073741857 → value_at (contents m r) c ≡ (cell_of m r c).value
+pub value-kept : (m : Words) (r : List Word) (c : ℕ) → AreStoredCells m r → c < 1073741857 → value_at (contents m r) c ≡ (stored_cell m r c).value
 unfolding value_at
 value-kept m r c begun h =
-    ap (λ o. unwrap_or (option_map (λ (e : TableEntry). e.value) o) (initial_value m.image c)) (found (cell_of m r) 0 1073741857 c (omega arith) (omega arith))
-    ∙ value-found c (cell_of m r c) (initial_value m.image c) (begun.unused c h)
+    ap (λ o. unwrap_or (option_map (λ (e : TableEntry). e.value) o) (initial_value m.image c)) (found (stored_cell m r) 0 1073741857 c (omega arith) (omega arith))
+    ∙ value-found c (stored_cell m r c) (initial_value m.image c) (begun.unused c h)
 
 time-beyond : (m : Words) (r : List Word) (c : ℕ) → 1073741857 ≤ c → time_at (contents m r) c ≡ 0
 unfolding time_at
-time-beyond m r c h = ap (λ o. unwrap_or (option_map (λ (e : TableEntry). e.time) o) 0) (found-beyond (cell_of m r) 0 1073741857 c (omega arith))
+time-beyond m r c h = ap (λ o. unwrap_or (option_map (λ (e : TableEntry). e.time) o) 0) (found-beyond (stored_cell m r) 0 1073741857 c (omega arith))
 
 value-beyond : (m : Words) (r : List Word) (c : ℕ) → 1073741857 ≤ c → value_at (contents m r) c ≡ initial_value m.image c
 unfolding value_at
-value-beyond m r c h = ap (λ o. unwrap_or (option_map (λ (e : TableEntry). e.value) o) (initial_value m.image c)) (found-beyond (cell_of m r) 0 1073741857 c (omega arith))
+value-beyond m r c h = ap (λ o. unwrap_or (option_map (λ (e : TableEntry). e.value) o) (initial_value m.image c)) (found-beyond (stored_cell m r) 0 1073741857 c (omega arith))
 
 -- ---- a change of one cell, and of none
 
@@ -110,21 +110,21 @@ low_or_high a b = elim (nat_lt a b) as (λ t. nat_lt a b ≡ t → (a < b) ⊎ (
 record IsChange (m n : Words) (r s : List Word) (cell : ℕ) (w : Word) : Type 0 where
   image : n.image ≡ m.image
   full : length s ≡ 33
-  here : cell_of n s cell ≡ w
-  others : (c : ℕ) → c < 1073741857 → c ≢ cell → cell_of n s c ≡ cell_of m r c
+  here : stored_cell n s cell ≡ w
+  others : (c : ℕ) → c < 1073741857 → c ≢ cell → stored_cell n s c ≡ stored_cell m r c
 
-begun-changed : (m n : Words) (r s : List Word) (cell : ℕ) (w : Word) → IsBegun m r → 0 < w.time → IsChange m n r s cell w → IsBegun n s
+begun-changed : (m n : Words) (r s : List Word) (cell : ℕ) (w : Word) → AreStoredCells m r → 0 < w.time → IsChange m n r s cell w → AreStoredCells n s
 begun-changed m n r s cell w begun t change = record { full = change.full; unused = λ c h z. by c h z (equal_or_not c cell) }
   where
-    by : (c : ℕ) → c < 1073741857 → (cell_of n s c).time ≡ 0 → (c ≡ cell) ⊎ (c ≢ cell) → (cell_of n s c).value ≡ initial_value n.image c
+    by : (c : ℕ) → c < 1073741857 → (stored_cell n s c).time ≡ 0 → (c ≡ cell) ⊎ (c ≢ cell) → (stored_cell n s c).value ≡ initial_value n.image c
     by c h z (inl e) =
-        let set_time : (cell_of n s c).time ≡ w.time = ap (λ k. (cell_of n s k).time) e ∙ ap (λ (v : Word). v.time) change.here in
+        let set_time : (stored_cell n s c).time ≡ w.time = ap (λ k. (stored_cell n s k).time) e ∙ ap (λ (v : Word). v.time) change.here in
         absurd (omega arith)
     by c h z (inr d) =
         let same = change.others c h d in
         ap (λ (v : Word). v.value) same ∙ begun.unused c h (sym (ap (λ (v : Word). v.time) same) ∙ z) ∙ ap (λ i. initial_value i c) (sym change.image)
 
-set-changed : (m n : Words) (r s : List Word) (cell : ℕ) (w : Word) → IsBegun m r → IsBegun n s → cell < 1073741857 → IsChange m n r s cell w → IsSet (contents m r) (contents n s) cell w.value w.time
+set-changed : (m n : Words) (r s : List Word) (cell : ℕ) (w : Word) → AreStoredCells m r → AreStoredCells n s → cell < 1073741857 → IsChange m n r s cell w → IsSet (contents m r) (contents n s) cell w.value w.time
 set-changed m n r s cell w begun now h change = record {
   image = change.image;
   value_set = value-kept n s cell now h ∙ ap (λ (v : Word). v.value) change.here;
@@ -143,13 +143,13 @@ set-changed m n r s cell w begun now h change = record {
 
 -- ---- a cell is a word of memory or a register
 
-pub cell-word : (m : Words) (r : List Word) (c : ℕ) → c < 2 ^ 30 → cell_of m r c ≡ kept m c
-unfolding cell_of
-cell-word m r c h = ap (λ b. cond b (kept m c) (get_or r (c - 2 ^ 30) no_word)) (lt-ltb c (2 ^ 30) h)
+pub cell-word : (m : Words) (r : List Word) (c : ℕ) → c < 2 ^ 30 → stored_cell m r c ≡ stored_word m c
+unfolding stored_cell
+cell-word m r c h = ap (λ b. cond b (stored_word m c) (get_or r (c - 2 ^ 30) no_word)) (lt-ltb c (2 ^ 30) h)
 
-pub cell-register : (m : Words) (r : List Word) (c : ℕ) → 2 ^ 30 ≤ c → cell_of m r c ≡ get_or r (c - 2 ^ 30) no_word
-unfolding cell_of
-cell-register m r c h = ap (λ b. cond b (kept m c) (get_or r (c - 2 ^ 30) no_word)) (le-ltb c (2 ^ 30) h)
+pub cell-register : (m : Words) (r : List Word) (c : ℕ) → 2 ^ 30 ≤ c → stored_cell m r c ≡ get_or r (c - 2 ^ 30) no_word
+unfolding stored_cell
+cell-register m r c h = ap (λ b. cond b (stored_word m c) (get_or r (c - 2 ^ 30) no_word)) (le-ltb c (2 ^ 30) h)
 
 -- each cell of a program has a place
 neither : (b : Bool) → (b && false || false) ≡ false
@@ -170,7 +170,7 @@ cell-within c e = by (low_or_high c 1073741857)
     by (inl h) = h
     by (inr h) = absurd (true≢false (sym e ∙ no_cell c h))
 
-change-register : (m : Words) (r : List Word) (cell : ℕ) (w : Word) → IsBegun m r → 2 ^ 30 ≤ cell → cell < 1073741857 → IsChange m m r (set r (cell - 2 ^ 30) w) cell w
+change-register : (m : Words) (r : List Word) (cell : ℕ) (w : Word) → AreStoredCells m r → 2 ^ 30 ≤ cell → cell < 1073741857 → IsChange m m r (set r (cell - 2 ^ 30) w) cell w
 change-register m r cell w begun low high =
     let full : length r ≡ 33 = begun.full in
     record {
@@ -180,14 +180,14 @@ change-register m r cell w begun low high =
       others = λ c h d. by c d (low_or_high c (2 ^ 30));
     }
   where
-    by : (c : ℕ) → c ≢ cell → (c < 2 ^ 30) ⊎ (2 ^ 30 ≤ c) → cell_of m (set r (cell - 2 ^ 30) w) c ≡ cell_of m r c
+    by : (c : ℕ) → c ≢ cell → (c < 2 ^ 30) ⊎ (2 ^ 30 ≤ c) → stored_cell m (set r (cell - 2 ^ 30) w) c ≡ stored_cell m r c
     by c d (inl l) = cell-word m (set r (cell - 2 ^ 30) w) c l ∙ sym (cell-word m r c l)
     by c d (inr l) =
         cell-register m (set r (cell - 2 ^ 30) w) c l ∙ get_or-set_other r (cell - 2 ^ 30) (c - 2 ^ 30) w no_word (λ e. d (omega arith))
         ∙ sym (cell-register m r c l)
 
-change-word : (m n : Words) (r : List Word) (cell : ℕ) (w : Word) → IsBegun m r → cell < 2 ^ 30 → n.image ≡ m.image → kept n cell ≡ w
-    → ((c : ℕ) → c < 2 ^ 30 → c ≢ cell → kept n c ≡ kept m c) → IsChange m n r r cell w
+change-word : (m n : Words) (r : List Word) (cell : ℕ) (w : Word) → AreStoredCells m r → cell < 2 ^ 30 → n.image ≡ m.image → stored_word n cell ≡ w
+    → ((c : ℕ) → c < 2 ^ 30 → c ≢ cell → stored_word n c ≡ stored_word m c) → IsChange m n r r cell w
 change-word m n r cell w begun low image here others = record {
   image = image;
   full = begun.full;
@@ -195,39 +195,39 @@ change-word m n r cell w begun low image here others = record {
   others = λ c h d. by c d (low_or_high c (2 ^ 30));
 }
   where
-    by : (c : ℕ) → c ≢ cell → (c < 2 ^ 30) ⊎ (2 ^ 30 ≤ c) → cell_of n r c ≡ cell_of m r c
+    by : (c : ℕ) → c ≢ cell → (c < 2 ^ 30) ⊎ (2 ^ 30 ≤ c) → stored_cell n r c ≡ stored_cell m r c
     by c d (inl l) = cell-word n r c l ∙ others c l d ∙ sym (cell-word m r c l)
     by c d (inr l) = cell-register n r c l ∙ sym (cell-register m r c l)
 
-pub begun-register : (m : Words) (r : List Word) (cell : ℕ) (w : Word) → IsBegun m r → 0 < w.time → 2 ^ 30 ≤ cell → cell < 1073741857 → IsBegun m (set r (cell - 2 ^ 30) w)
+pub begun-register : (m : Words) (r : List Word) (cell : ℕ) (w : Word) → AreStoredCells m r → 0 < w.time → 2 ^ 30 ≤ cell → cell < 1073741857 → AreStoredCells m (set r (cell - 2 ^ 30) w)
 begun-register m r cell w begun t low high = begun-changed m m r (set r (cell - 2 ^ 30) w) cell w begun t (change-register m r cell w begun low high)
 
-pub set-register : (m : Words) (r : List Word) (cell : ℕ) (w : Word) → IsBegun m r → 0 < w.time → 2 ^ 30 ≤ cell → cell < 1073741857
+pub set-register : (m : Words) (r : List Word) (cell : ℕ) (w : Word) → AreStoredCells m r → 0 < w.time → 2 ^ 30 ≤ cell → cell < 1073741857
     → IsSet (contents m r) (contents m (set r (cell - 2 ^ 30) w)) cell w.value w.time
 set-register m r cell w begun t low high =
     let change = change-register m r cell w begun low high in
     set-changed m m r (set r (cell - 2 ^ 30) w) cell w begun (begun-register m r cell w begun t low high) high change
 
-pub begun-word : (m n : Words) (r : List Word) (cell : ℕ) (w : Word) → IsBegun m r → 0 < w.time → cell < 2 ^ 30 → n.image ≡ m.image → kept n cell ≡ w
-    → ((c : ℕ) → c < 2 ^ 30 → c ≢ cell → kept n c ≡ kept m c) → IsBegun n r
+pub begun-word : (m n : Words) (r : List Word) (cell : ℕ) (w : Word) → AreStoredCells m r → 0 < w.time → cell < 2 ^ 30 → n.image ≡ m.image → stored_word n cell ≡ w
+    → ((c : ℕ) → c < 2 ^ 30 → c ≢ cell → stored_word n c ≡ stored_word m c) → AreStoredCells n r
 begun-word m n r cell w begun t low image here others = begun-changed m n r r cell w begun t (change-word m n r cell w begun low image here others)
 
-pub set-word : (m n : Words) (r : List Word) (cell : ℕ) (w : Word) → IsBegun m r → 0 < w.time → cell < 2 ^ 30 → n.image ≡ m.image → kept n cell ≡ w
-    → ((c : ℕ) → c < 2 ^ 30 → c ≢ cell → kept n c ≡ kept m c) → IsSet (contents m r) (contents n r) cell w.value w.time
+pub set-word : (m n : Words) (r : List Word) (cell : ℕ) (w : Word) → AreStoredCells m r → 0 < w.time → cell < 2 ^ 30 → n.image ≡ m.image → stored_word n cell ≡ w
+    → ((c : ℕ) → c < 2 ^ 30 → c ≢ cell → stored_word n c ≡ stored_word m c) → IsSet (contents m r) (contents n r) cell w.value w.time
 set-word m n r cell w begun t low image here others =
     set-changed m n r r cell w begun (begun-word m n r cell w begun t low image here others) (omega arith) (change-word m n r cell w begun low image here others)
 
 -- where no word changes, no cell does
-same-cells : (m n : Words) (r : List Word) (cell : ℕ) → kept n cell ≡ kept m cell → ((c : ℕ) → c < 2 ^ 30 → c ≢ cell → kept n c ≡ kept m c) → (c : ℕ) → cell_of n r c ≡ cell_of m r c
+same-cells : (m n : Words) (r : List Word) (cell : ℕ) → stored_word n cell ≡ stored_word m cell → ((c : ℕ) → c < 2 ^ 30 → c ≢ cell → stored_word n c ≡ stored_word m c) → (c : ℕ) → stored_cell n r c ≡ stored_cell m r c
 same-cells m n r cell here others c = by (low_or_high c (2 ^ 30)) (equal_or_not c cell)
   where
-    by : (c < 2 ^ 30) ⊎ (2 ^ 30 ≤ c) → (c ≡ cell) ⊎ (c ≢ cell) → cell_of n r c ≡ cell_of m r c
-    by (inl l) (inl e) = cell-word n r c l ∙ ap (kept n) e ∙ here ∙ ap (kept m) (sym e) ∙ sym (cell-word m r c l)
+    by : (c < 2 ^ 30) ⊎ (2 ^ 30 ≤ c) → (c ≡ cell) ⊎ (c ≢ cell) → stored_cell n r c ≡ stored_cell m r c
+    by (inl l) (inl e) = cell-word n r c l ∙ ap (stored_word n) e ∙ here ∙ ap (stored_word m) (sym e) ∙ sym (cell-word m r c l)
     by (inl l) (inr d) = cell-word n r c l ∙ others c l d ∙ sym (cell-word m r c l)
     by (inr l) o = cell-register n r c l ∙ sym (cell-register m r c l)
 
-pub begun-same : (m n : Words) (r : List Word) (cell : ℕ) → IsBegun m r → n.image ≡ m.image → kept n cell ≡ kept m cell
-    → ((c : ℕ) → c < 2 ^ 30 → c ≢ cell → kept n c ≡ kept m c) → IsBegun n r
+pub begun-same : (m n : Words) (r : List Word) (cell : ℕ) → AreStoredCells m r → n.image ≡ m.image → stored_word n cell ≡ stored_word m cell
+    → ((c : ℕ) → c < 2 ^ 30 → c ≢ cell → stored_word n c ≡ stored_word m c) → AreStoredCells n r
 begun-same m n r cell begun image here others = record {
   full = begun.full;
   unused = λ c h z.
@@ -235,10 +235,10 @@ begun-same m n r cell begun image here others = record {
       ap (λ (v : Word). v.value) same ∙ begun.unused c h (sym (ap (λ (v : Word). v.time) same) ∙ z) ∙ ap (λ i. initial_value i c) (sym image);
 }
 
-pub same-contents : (m n : Words) (r : List Word) (cell : ℕ) → n.image ≡ m.image → kept n cell ≡ kept m cell
-    → ((c : ℕ) → c < 2 ^ 30 → c ≢ cell → kept n c ≡ kept m c) → contents n r ≡ contents m r
+pub same-contents : (m n : Words) (r : List Word) (cell : ℕ) → n.image ≡ m.image → stored_word n cell ≡ stored_word m cell
+    → ((c : ℕ) → c < 2 ^ 30 → c ≢ cell → stored_word n c ≡ stored_word m c) → contents n r ≡ contents m r
 same-contents m n r cell image here others =
-    ap₂ of image (used-same (cell_of n r) (cell_of m r) 0 1073741857 (λ k h. same-cells m n r cell here others (0 + k)))
+    ap₂ of image (used-same (stored_cell n r) (stored_cell m r) 0 1073741857 (λ k h. same-cells m n r cell here others (0 + k)))
   where
     of : Image → List TableEntry → Contents
     of i es = record { image = i; touched = es }
@@ -291,10 +291,10 @@ initial-register i r =
         ∙ zeros 0 29 k
         ∙ ap (λ b. cond b 0x7FFFF000 0) (sym (ne_eqb (suc (suc (suc k))) 2 (λ e. absurd (omega arith))))
 
-first-cell : (m : Words) → ((w : ℕ) → kept m w ≡ first_word m.image w) → (c : ℕ) → cell_of m first_registers c ≡ first_word m.image c
+first-cell : (m : Words) → ((w : ℕ) → stored_word m w ≡ first_word m.image w) → (c : ℕ) → stored_cell m first_registers c ≡ first_word m.image c
 first-cell m begun c = by (low_or_high c (2 ^ 30))
   where
-    by : (c < 2 ^ 30) ⊎ (2 ^ 30 ≤ c) → cell_of m first_registers c ≡ first_word m.image c
+    by : (c < 2 ^ 30) ⊎ (2 ^ 30 ≤ c) → stored_cell m first_registers c ≡ first_word m.image c
     by (inl l) = cell-word m first_registers c l ∙ begun c
     by (inr l) =
         cell-register m first_registers c l ∙ register-first (c - 2 ^ 30)
@@ -303,21 +303,21 @@ first-cell m begun c = by (low_or_high c (2 ^ 30))
         to_word : ℕ → Word
         to_word v = record { value = v; time = 0 }
 
-pub begun-first : (m : Words) → ((w : ℕ) → kept m w ≡ first_word m.image w) → IsBegun m first_registers
+pub begun-first : (m : Words) → ((w : ℕ) → stored_word m w ≡ first_word m.image w) → AreStoredCells m first_registers
 begun-first m begun = record { full = refl; unused = λ c h z. ap (λ (v : Word). v.value) (first-cell m begun c) }
 
-pub touched-first : (m : Words) → ((w : ℕ) → kept m w ≡ first_word m.image w) → used (cell_of m first_registers) 0 1073741857 ≡ []
-touched-first m begun = used-none (cell_of m first_registers) 0 1073741857 (λ k h. ap (λ (v : Word). v.time) (first-cell m begun (0 + k)))
+pub touched-first : (m : Words) → ((w : ℕ) → stored_word m w ≡ first_word m.image w) → used (stored_cell m first_registers) 0 1073741857 ≡ []
+touched-first m begun = used-none (stored_cell m first_registers) 0 1073741857 (λ k h. ap (λ (v : Word). v.time) (first-cell m begun (0 + k)))
 
 -- ---- the list of the used cells
 
-pub touched-parts : (m : Words) (r : List Word) → IsBegun m r → used (kept m) 0 (2 ^ 30) ++ used (word_at r (2 ^ 30)) (2 ^ 30) (length r) ≡ used (cell_of m r) 0 1073741857
+pub touched-parts : (m : Words) (r : List Word) → AreStoredCells m r → used (stored_word m) 0 (2 ^ 30) ++ used (listed_word r (2 ^ 30)) (2 ^ 30) (length r) ≡ used (stored_cell m r) 0 1073741857
 touched-parts m r begun =
     ap₂ (λ a b. a ++ b)
-    (used-same (kept m) (cell_of m r) 0 (2 ^ 30) (λ k h. sym (cell-word m r (0 + k) (omega arith))))
-    (ap (used (word_at r (2 ^ 30)) (2 ^ 30)) begun.full
-    ∙ used-same (word_at r (2 ^ 30)) (cell_of m r) (2 ^ 30) 33 (λ k h. sym (cell-register m r (2 ^ 30 + k) (omega arith))))
-    ∙ sym (used-add (cell_of m r) 0 (2 ^ 30) 33)
+    (used-same (stored_word m) (stored_cell m r) 0 (2 ^ 30) (λ k h. sym (cell-word m r (0 + k) (omega arith))))
+    (ap (used (listed_word r (2 ^ 30)) (2 ^ 30)) begun.full
+    ∙ used-same (listed_word r (2 ^ 30)) (stored_cell m r) (2 ^ 30) 33 (λ k h. sym (cell-register m r (2 ^ 30 + k) (omega arith))))
+    ∙ sym (used-add (stored_cell m r) 0 (2 ^ 30) 33)
 
 all-snoc : (P : ℕ → Type 0) (xs : List ℕ) (z : ℕ) → AllByRecursion P xs → P z → AllByRecursion P (xs ++ z ∷ [])
 all-snoc P [] z a p = (p, tt)
@@ -384,16 +384,16 @@ used-listed f from (suc n) c l h t = by (equal_or_not (from + n) c) (λ low. use
         (subst (λ (l : List TableEntry). Contains l (entry c (f c))) (sym (one_used c (f c) t)) (0, (omega arith), refl)))
     by (inr d) before = Contains-append_left (used f from n) (if_used (from + n) (f (from + n))) (entry c (f c)) (before (omega arith))
 
-pub table-touched : (m : Words) (r : List Word) → IsBegun m r → IsTable (contents m r) (contents m r).touched
+pub table-touched : (m : Words) (r : List Word) → AreStoredCells m r → IsTable (contents m r) (contents m r).touched
 table-touched m r begun = record {
-  rising = (rises (cell_of m r) 0 1073741857).0;
+  rising = (rises (stored_cell m r) 0 1073741857).0;
   set_only = λ e there.
-      let p = listed-used (cell_of m r) 0 1073741857 e there in
+      let p = listed-used (stored_cell m r) 0 1073741857 e there in
       let c : ℕ = p.0 in
       let low : c < 1073741857 = (let h = p.1 in omega arith) in
-      let is : e ≡ entry c (cell_of m r c) = p.3 in
+      let is : e ≡ entry c (stored_cell m r c) = p.3 in
       let cell : e.cell ≡ c = ap (λ (e : TableEntry). e.cell) is in
-      let time : e.time ≡ (cell_of m r c).time = ap (λ (e : TableEntry). e.time) is in (
+      let time : e.time ≡ (stored_cell m r c).time = ap (λ (e : TableEntry). e.time) is in (
         (let t = p.2 in omega arith),
         ap (λ (e : TableEntry). e.value) is ∙ sym (value-kept m r c begun low) ∙ ap (value_at (contents m r)) (sym cell),
         time ∙ sym (time-kept m r c low) ∙ ap (time_at (contents m r)) (sym cell),
@@ -407,7 +407,7 @@ table-touched m r begun = record {
     by c t (inl h) =
         let time = time-kept m r c h in
         subst (λ (e : TableEntry). Contains (contents m r).touched e) (ap₂ (to_entry c) (sym (value-kept m r c begun h)) (sym time))
-        (used-listed (cell_of m r) 0 1073741857 c (omega arith) (omega arith) (omega arith))
+        (used-listed (stored_cell m r) 0 1073741857 c (omega arith) (omega arith) (omega arith))
       where
         to_entry : ℕ → ℕ → ℕ → TableEntry
         to_entry c v t = record { cell = c; value = v; time = t }

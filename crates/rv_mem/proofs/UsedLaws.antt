@@ -2,7 +2,7 @@
 use Rattle.std.proofs.Common.{◌≡◌, ℕ, zero, suc, ◌+◌, ◌-◌, ◌<◌, cond, nat_lt, List, [], ◌∷◌, ◌++◌, get_or, refl, sym, ◌∙◌, ap, arith, append_assoc, append-nil, add-zero, add-suc}
 use Rattle.std.proofs.lemmas.Bool.{lt-ltb}
 use Rattle.rv_mem.specs.declared.word.Word.{Word}
-use Rattle.rv_mem.specs.Used.{no_word, if_used, used, word_at}
+use Rattle.rv_mem.specs.Used.{no_word, if_used, used, listed_word}
 
 pub used-zero : (f : ℕ → Word) (from : ℕ) → used f from 0 ≡ []
 unfolding used
@@ -43,23 +43,23 @@ used-none f from (suc n) none =
     ∙ unused (from + n) (f (from + n)) (none n (omega arith))
 
 -- one more word of a list
-read-word : (words : List Word) (first i : ℕ) → word_at words first (first + i) ≡ get_or words i no_word
+read-word : (words : List Word) (first i : ℕ) → listed_word words first (first + i) ≡ get_or words i no_word
 read-word words first i = ap (λ k. get_or words k no_word) (let k : first + i - first ≡ i = omega arith in k)
 
 pub next-used : (words : List Word) (first i : ℕ) → 0 < (get_or words i no_word).time
-    → used (word_at words first) first (i + 1)
-    ≡ used (word_at words first) first i ++ record { cell = first + i; value = (get_or words i no_word).value; time = (get_or words i no_word).time } ∷ []
+    → used (listed_word words first) first (i + 1)
+    ≡ used (listed_word words first) first i ++ record { cell = first + i; value = (get_or words i no_word).value; time = (get_or words i no_word).time } ∷ []
 next-used words first i t =
-    used-suc (word_at words first) first i
-    ∙ ap (λ v. used (word_at words first) first i ++ if_used (first + i) v) (read-word words first i)
-    ∙ ap (λ l. used (word_at words first) first i ++ l) (one_used (first + i) (get_or words i no_word) t)
+    used-suc (listed_word words first) first i
+    ∙ ap (λ v. used (listed_word words first) first i ++ if_used (first + i) v) (read-word words first i)
+    ∙ ap (λ l. used (listed_word words first) first i ++ l) (one_used (first + i) (get_or words i no_word) t)
 
 pub next-unused : (words : List Word) (first i : ℕ) → (get_or words i no_word).time ≡ 0
-    → used (word_at words first) first (i + 1) ≡ used (word_at words first) first i
+    → used (listed_word words first) first (i + 1) ≡ used (listed_word words first) first i
 next-unused words first i t =
-    used-suc (word_at words first) first i
-    ∙ ap (λ v. used (word_at words first) first i ++ if_used (first + i) v) (read-word words first i)
-    ∙ ap (λ l. used (word_at words first) first i ++ l) (unused (first + i) (get_or words i no_word) t) ∙ append-nil (used (word_at words first) first i)
+    used-suc (listed_word words first) first i
+    ∙ ap (λ v. used (listed_word words first) first i ++ if_used (first + i) v) (read-word words first i)
+    ∙ ap (λ l. used (listed_word words first) first i ++ l) (unused (first + i) (get_or words i no_word) t) ∙ append-nil (used (listed_word words first) first i)
 
 -- what is appended to the old list and some more
 pub appended : {A : Type 0} (now then old before after tail : List A) → now ≡ then ++ tail → then ≡ old ++ before → after ≡ before ++ tail → now ≡ old ++ after

@@ -9,9 +9,9 @@ use Rattle.rv_spec.specs.Step.{start, register}
 use Rattle.rv_spec.specs.Cells.{value, initial_value, reservation_cell}
 use Rattle.rv_mem.specs.declared.word.Word.{Word}
 use Rattle.rv_mem.specs.declared.page.Page.{Page}
-use Rattle.rv_mem.specs.Directory.{number_of}
-use Rattle.rv_mem.specs.Used.{no_word, used, word_at}
-use Rattle.rv_mem.specs.Words.{word_of, word_in, first_word, no_page, ArePages}
+use Rattle.rv_mem.specs.Directory.{page_number}
+use Rattle.rv_mem.specs.Used.{no_word, used, listed_word}
+use Rattle.rv_mem.specs.Words.{paged_word, word_in, first_word, no_page, ArePages}
 use Rattle.rv_mem.proofs.DirectoryLaws.{number-none}
 use Rattle.rv_mem.proofs.UsedLaws.{used-same, used-none, used-add}
 
@@ -23,56 +23,56 @@ pub equal_or_not : (a b : ℕ) → (a ≡ b) ⊎ (a ≢ b)
 equal_or_not a b = elim (a == b) as (λ c. (a == b) ≡ c → (a ≡ b) ⊎ (a ≢ b)) [ true ↦ λ e. inl (eqb-true a b e) | false ↦ λ e. inr (eqb-false a b e) ] refl
 
 -- a word without a page is that of the image
-pub word-none : (i : Image) (d : List ℕ) (pages : List Page) (w : ℕ) → number_of d (w / 16) ≡ 0 → word_of i d pages w ≡ first_word i w
-unfolding word_of
-word-none i d pages w e = ap (λ b. cond b (first_word i w) (word_in pages (number_of d (w / 16)) w)) (eq-eqb (number_of d (w / 16)) 0 e)
+pub word-none : (i : Image) (d : List ℕ) (pages : List Page) (w : ℕ) → page_number d (w / 16) ≡ 0 → paged_word i d pages w ≡ first_word i w
+unfolding paged_word
+word-none i d pages w e = ap (λ b. cond b (first_word i w) (word_in pages (page_number d (w / 16)) w)) (eq-eqb (page_number d (w / 16)) 0 e)
 
 -- and with a page it stands there
-pub word-some : (i : Image) (d : List ℕ) (pages : List Page) (w index : ℕ) → number_of d (w / 16) ≡ index + 1 → word_of i d pages w ≡ get_or (get_or pages index no_page).words (w % 16) no_word
-unfolding word_of
+pub word-some : (i : Image) (d : List ℕ) (pages : List Page) (w index : ℕ) → page_number d (w / 16) ≡ index + 1 → paged_word i d pages w ≡ get_or (get_or pages index no_page).words (w % 16) no_word
+unfolding paged_word
 word-some i d pages w index e =
-    ap (λ b. cond b (first_word i w) (word_in pages (number_of d (w / 16)) w)) (ne_eqb (number_of d (w / 16)) 0 (λ z. absurd (omega arith)))
-    ∙ ap (λ n. get_or (get_or pages n no_page).words (w % 16) no_word) (let k : number_of d (w / 16) - 1 ≡ index = omega arith in k)
+    ap (λ b. cond b (first_word i w) (word_in pages (page_number d (w / 16)) w)) (ne_eqb (page_number d (w / 16)) 0 (λ z. absurd (omega arith)))
+    ∙ ap (λ n. get_or (get_or pages n no_page).words (w % 16) no_word) (let k : page_number d (w / 16) - 1 ≡ index = omega arith in k)
 
-pub word-read : (i : Image) (d : List ℕ) (pages : List Page) (w index : ℕ) (page : Page) → number_of d (w / 16) ≡ index + 1 → index < length pages
-    → page ≡ get_or pages index page → word_of i d pages w ≡ get_or page.words (w % 16) no_word
+pub word-read : (i : Image) (d : List ℕ) (pages : List Page) (w index : ℕ) (page : Page) → page_number d (w / 16) ≡ index + 1 → index < length pages
+    → page ≡ get_or pages index page → paged_word i d pages w ≡ get_or page.words (w % 16) no_word
 word-read i d pages w index page e h f =
     word-some i d pages w index e ∙ ap (λ (p : Page). get_or p.words (w % 16) no_word) (get_or_default pages index no_page page h ∙ sym f)
 
 -- where no page's number changes, no word does
-pub word-kept : (i : Image) (d e : List ℕ) (pages : List Page) → ((p : ℕ) → p < 2 ^ 26 → number_of e p ≡ number_of d p) → (w : ℕ) → w < 2 ^ 30 → word_of i e pages w ≡ word_of i d pages w
-unfolding word_of
+pub word-kept : (i : Image) (d e : List ℕ) (pages : List Page) → ((p : ℕ) → p < 2 ^ 26 → page_number e p ≡ page_number d p) → (w : ℕ) → w < 2 ^ 30 → paged_word i e pages w ≡ paged_word i d pages w
+unfolding paged_word
 word-kept i d e pages same w h = ap (λ n. cond (n == 0) (first_word i w) (word_in pages n w)) (same (w / 16) (omega arith))
 
 -- a page with the words of the image, at the end and with its number, changes no word
 pub word-added : (i : Image) (d e : List ℕ) (pages : List Page) (p : ℕ) (page : Page) → ArePages d pages
-    → number_of d p ≡ 0 → number_of e p ≡ length pages + 1 → ((q : ℕ) → q < 2 ^ 26 → q ≢ p → number_of e q ≡ number_of d q)
+    → page_number d p ≡ 0 → page_number e p ≡ length pages + 1 → ((q : ℕ) → q < 2 ^ 26 → q ≢ p → page_number e q ≡ page_number d q)
     → ((k : ℕ) → k < 16 → get_or page.words k no_word ≡ first_word i (16 * p + k))
-    → (w : ℕ) → w < 2 ^ 30 → word_of i e (pages ++ page ∷ []) w ≡ word_of i d pages w
+    → (w : ℕ) → w < 2 ^ 30 → paged_word i e (pages ++ page ∷ []) w ≡ paged_word i d pages w
 word-added i d e pages p page sound absent made same begun w h = by (equal_or_not (w / 16) p)
   where
-    new : w / 16 ≡ p → word_of i e (pages ++ page ∷ []) w ≡ word_of i d pages w
+    new : w / 16 ≡ p → paged_word i e (pages ++ page ∷ []) w ≡ paged_word i d pages w
     new at =
-        word-some i e (pages ++ page ∷ []) w (length pages) (ap (number_of e) at ∙ made)
+        word-some i e (pages ++ page ∷ []) w (length pages) (ap (page_number e) at ∙ made)
         ∙ ap (λ (q : Page). get_or q.words (w % 16) no_word) (get_or-append_seam pages page [] no_page)
         ∙ begun (w % 16) (omega arith)
         ∙ ap (first_word i) (let k : 16 * p + w % 16 ≡ w = omega arith in k)
-        ∙ sym (word-none i d pages w (ap (number_of d) at ∙ absent))
+        ∙ sym (word-none i d pages w (ap (page_number d) at ∙ absent))
 
-    old : w / 16 ≢ p → (number_of d (w / 16) ≡ 0) ⊎ ((k : ℕ) × (number_of d (w / 16) ≡ k + 1)) → word_of i e (pages ++ page ∷ []) w ≡ word_of i d pages w
+    old : w / 16 ≢ p → (page_number d (w / 16) ≡ 0) ⊎ ((k : ℕ) × (page_number d (w / 16) ≡ k + 1)) → paged_word i e (pages ++ page ∷ []) w ≡ paged_word i d pages w
     old n (inl z) = word-none i e (pages ++ page ∷ []) w (same (w / 16) (omega arith) n ∙ z) ∙ sym (word-none i d pages w z)
     old n (inr (k, f)) =
         word-some i e (pages ++ page ∷ []) w k (same (w / 16) (omega arith) n ∙ f)
-        ∙ ap (λ (q : Page). get_or q.words (w % 16) no_word) (get_or_append_left pages (page ∷ []) no_page k (let there : number_of d (w / 16) ≤ length pages = sound.there (w / 16) (omega arith) in omega arith))
+        ∙ ap (λ (q : Page). get_or q.words (w % 16) no_word) (get_or_append_left pages (page ∷ []) no_page k (let there : page_number d (w / 16) ≤ length pages = sound.there (w / 16) (omega arith) in omega arith))
         ∙ sym (word-some i d pages w k f)
 
-    by : (w / 16 ≡ p) ⊎ (w / 16 ≢ p) → word_of i e (pages ++ page ∷ []) w ≡ word_of i d pages w
+    by : (w / 16 ≡ p) ⊎ (w / 16 ≢ p) → paged_word i e (pages ++ page ∷ []) w ≡ paged_word i d pages w
     by (inl at) = new at
-    by (inr n) = old n (zero_or_next (number_of d (w / 16)))
+    by (inr n) = old n (zero_or_next (page_number d (w / 16)))
 
 -- a word that is set in its page
-pub word-set : (i : Image) (d : List ℕ) (pages : List Page) (w index : ℕ) (word : Word) (page changed : Page) → number_of d (w / 16) ≡ index + 1 → index < length pages
-    → changed.words ≡ set page.words (w % 16) word → word_of i d (set pages index changed) w ≡ word
+pub word-set : (i : Image) (d : List ℕ) (pages : List Page) (w index : ℕ) (word : Word) (page changed : Page) → page_number d (w / 16) ≡ index + 1 → index < length pages
+    → changed.words ≡ set page.words (w % 16) word → paged_word i d (set pages index changed) w ≡ word
 word-set i d pages w index word page changed e h is =
     let full : length page.words ≡ 16 = page.full in
     word-some i d (set pages index changed) w index e
@@ -81,18 +81,18 @@ word-set i d pages w index word page changed e h is =
     ∙ get_or-set_same page.words (w % 16) word no_word (omega arith)
 
 -- and no other word
-pub word-others : (i : Image) (d : List ℕ) (pages : List Page) (w index : ℕ) (word : Word) (page changed : Page) → ArePages d pages → w < 2 ^ 30 → number_of d (w / 16) ≡ index + 1
+pub word-others : (i : Image) (d : List ℕ) (pages : List Page) (w index : ℕ) (word : Word) (page changed : Page) → ArePages d pages → w < 2 ^ 30 → page_number d (w / 16) ≡ index + 1
     → index < length pages → page ≡ get_or pages index page → changed.words ≡ set page.words (w % 16) word
-    → (v : ℕ) → v < 2 ^ 30 → v ≢ w → word_of i d (set pages index changed) v ≡ word_of i d pages v
-word-others i d pages w index word page changed sound low e h f is v within other = by (equal_or_not (v / 16) (w / 16)) (zero_or_next (number_of d (v / 16)))
+    → (v : ℕ) → v < 2 ^ 30 → v ≢ w → paged_word i d (set pages index changed) v ≡ paged_word i d pages v
+word-others i d pages w index word page changed sound low e h f is v within other = by (equal_or_not (v / 16) (w / 16)) (zero_or_next (page_number d (v / 16)))
   where
-    by : (v / 16 ≡ w / 16) ⊎ (v / 16 ≢ w / 16) → (number_of d (v / 16) ≡ 0) ⊎ ((k : ℕ) × (number_of d (v / 16) ≡ k + 1)) → word_of i d (set pages index changed) v ≡ word_of i d pages v
+    by : (v / 16 ≡ w / 16) ⊎ (v / 16 ≢ w / 16) → (page_number d (v / 16) ≡ 0) ⊎ ((k : ℕ) × (page_number d (v / 16) ≡ k + 1)) → paged_word i d (set pages index changed) v ≡ paged_word i d pages v
     by (inl at) o =
-        word-some i d (set pages index changed) v index (ap (number_of d) at ∙ e)
+        word-some i d (set pages index changed) v index (ap (page_number d) at ∙ e)
         ∙ ap (λ (q : Page). get_or q.words (v % 16) no_word) (get_or-set_same pages index changed no_page h)
         ∙ ap (λ l. get_or l (v % 16) no_word) is
         ∙ get_or-set_other page.words (w % 16) (v % 16) word no_word (λ same. other (omega arith))
-        ∙ sym (word-read i d pages v index page (ap (number_of d) at ∙ e) h f)
+        ∙ sym (word-read i d pages v index page (ap (page_number d) at ∙ e) h f)
     by (inr n) (inl z) = word-none i d (set pages index changed) v z ∙ sym (word-none i d pages v z)
     by (inr n) (inr (k, g)) =
         word-some i d (set pages index changed) v k g
@@ -104,20 +104,20 @@ word-others i d pages w index word page changed sound low e h f is v within othe
 sixteenth : (p k : ℕ) → k < 16 → ((16 * p + k) / 16 ≡ p) × ((16 * p + k) % 16 ≡ k)
 sixteenth p k h = (omega arith, omega arith)
 
-pub used-page : (i : Image) (d : List ℕ) (pages : List Page) (p index : ℕ) (page : Page) → number_of d p ≡ index + 1 → index < length pages → page ≡ get_or pages index page
-    → used (word_at page.words (16 * p)) (16 * p) 16 ≡ used (word_of i d pages) (16 * p) 16
-used-page i d pages p index page e h f = used-same (word_at page.words (16 * p)) (word_of i d pages) (16 * p) 16 (λ k within.
+pub used-page : (i : Image) (d : List ℕ) (pages : List Page) (p index : ℕ) (page : Page) → page_number d p ≡ index + 1 → index < length pages → page ≡ get_or pages index page
+    → used (listed_word page.words (16 * p)) (16 * p) 16 ≡ used (paged_word i d pages) (16 * p) 16
+used-page i d pages p index page e h f = used-same (listed_word page.words (16 * p)) (paged_word i d pages) (16 * p) 16 (λ k within.
     let at = sixteenth p k within in
     ap (λ j. get_or page.words j no_word) (let j : 16 * p + k - 16 * p ≡ (16 * p + k) % 16 = omega arith in j)
-    ∙ sym (word-read i d pages (16 * p + k) index page (ap (number_of d) at.0 ∙ e) h f))
+    ∙ sym (word-read i d pages (16 * p + k) index page (ap (page_number d) at.0 ∙ e) h f))
 
-pub used-no_page : (i : Image) (d : List ℕ) (pages : List Page) (p : ℕ) → number_of d p ≡ 0 → used (word_of i d pages) (16 * p) 16 ≡ []
-used-no_page i d pages p e = used-none (word_of i d pages) (16 * p) 16 (λ k within.
-    let none = word-none i d pages (16 * p + k) (ap (number_of d) (sixteenth p k within).0 ∙ e) in
+pub used-no_page : (i : Image) (d : List ℕ) (pages : List Page) (p : ℕ) → page_number d p ≡ 0 → used (paged_word i d pages) (16 * p) 16 ≡ []
+used-no_page i d pages p e = used-none (paged_word i d pages) (16 * p) 16 (λ k within.
+    let none = word-none i d pages (16 * p + k) (ap (page_number d) (sixteenth p k within).0 ∙ e) in
     ap (λ (v : Word). v.time) none)
 
-pub used-no_leaf : (i : Image) (d : List ℕ) (pages : List Page) (leaf : ℕ) → get_or d leaf 0 ≡ 0 → used (word_of i d pages) (131072 * leaf) 131072 ≡ []
-used-no_leaf i d pages leaf e = used-none (word_of i d pages) (131072 * leaf) 131072 (λ k within.
+pub used-no_leaf : (i : Image) (d : List ℕ) (pages : List Page) (leaf : ℕ) → get_or d leaf 0 ≡ 0 → used (paged_word i d pages) (131072 * leaf) 131072 ≡ []
+used-no_leaf i d pages leaf e = used-none (paged_word i d pages) (131072 * leaf) 131072 (λ k within.
     let at : (131072 * leaf + k) / 16 / 8192 ≡ leaf = omega arith in
     let none = word-none i d pages (131072 * leaf + k) (number-none d ((131072 * leaf + k) / 16) (ap (λ j. get_or d j 0) at ∙ e)) in
     ap (λ (v : Word). v.time) none)
@@ -142,26 +142,26 @@ next-first words i p k v h full low e before =
 
 -- ---- one more page or leaf
 
-pub next-page : (i : Image) (d : List ℕ) (pages : List Page) (leaf place index : ℕ) (page : Page) → number_of d (8192 * leaf + place) ≡ index + 1 → index < length pages → page ≡ get_or pages index page
-    → used (word_of i d pages) (131072 * leaf) (16 * (place + 1))
-    ≡ used (word_of i d pages) (131072 * leaf) (16 * place) ++ used (word_at page.words (16 * (8192 * leaf + place))) (16 * (8192 * leaf + place)) (length page.words)
+pub next-page : (i : Image) (d : List ℕ) (pages : List Page) (leaf place index : ℕ) (page : Page) → page_number d (8192 * leaf + place) ≡ index + 1 → index < length pages → page ≡ get_or pages index page
+    → used (paged_word i d pages) (131072 * leaf) (16 * (place + 1))
+    ≡ used (paged_word i d pages) (131072 * leaf) (16 * place) ++ used (listed_word page.words (16 * (8192 * leaf + place))) (16 * (8192 * leaf + place)) (length page.words)
 next-page i d pages leaf place index page e h f =
     let p : ℕ = 8192 * leaf + place in
-    ap (used (word_of i d pages) (131072 * leaf)) (let k : 16 * (place + 1) ≡ 16 * place + 16 = omega arith in k)
-    ∙ used-add (word_of i d pages) (131072 * leaf) (16 * place) 16
-    ∙ ap (λ l. used (word_of i d pages) (131072 * leaf) (16 * place) ++ l)
-    (ap (λ k. used (word_of i d pages) k 16) (let k : 131072 * leaf + 16 * place ≡ 16 * p = omega arith in k)
-    ∙ sym (used-page i d pages p index page e h f) ∙ ap (used (word_at page.words (16 * p)) (16 * p)) (sym page.full))
+    ap (used (paged_word i d pages) (131072 * leaf)) (let k : 16 * (place + 1) ≡ 16 * place + 16 = omega arith in k)
+    ∙ used-add (paged_word i d pages) (131072 * leaf) (16 * place) 16
+    ∙ ap (λ l. used (paged_word i d pages) (131072 * leaf) (16 * place) ++ l)
+    (ap (λ k. used (paged_word i d pages) k 16) (let k : 131072 * leaf + 16 * place ≡ 16 * p = omega arith in k)
+    ∙ sym (used-page i d pages p index page e h f) ∙ ap (used (listed_word page.words (16 * p)) (16 * p)) (sym page.full))
 
-pub next-no_page : (i : Image) (d : List ℕ) (pages : List Page) (leaf place : ℕ) → number_of d (8192 * leaf + place) ≡ 0
-    → used (word_of i d pages) (131072 * leaf) (16 * (place + 1)) ≡ used (word_of i d pages) (131072 * leaf) (16 * place)
+pub next-no_page : (i : Image) (d : List ℕ) (pages : List Page) (leaf place : ℕ) → page_number d (8192 * leaf + place) ≡ 0
+    → used (paged_word i d pages) (131072 * leaf) (16 * (place + 1)) ≡ used (paged_word i d pages) (131072 * leaf) (16 * place)
 next-no_page i d pages leaf place e =
     let p : ℕ = 8192 * leaf + place in
-    ap (used (word_of i d pages) (131072 * leaf)) (let k : 16 * (place + 1) ≡ 16 * place + 16 = omega arith in k)
-    ∙ used-add (word_of i d pages) (131072 * leaf) (16 * place) 16
-    ∙ ap (λ l. used (word_of i d pages) (131072 * leaf) (16 * place) ++ l)
-    (ap (λ k. used (word_of i d pages) k 16) (let k : 131072 * leaf + 16 * place ≡ 16 * p = omega arith in k) ∙ used-no_page i d pages p e)
-    ∙ append-nil (used (word_of i d pages) (131072 * leaf) (16 * place))
+    ap (used (paged_word i d pages) (131072 * leaf)) (let k : 16 * (place + 1) ≡ 16 * place + 16 = omega arith in k)
+    ∙ used-add (paged_word i d pages) (131072 * leaf) (16 * place) 16
+    ∙ ap (λ l. used (paged_word i d pages) (131072 * leaf) (16 * place) ++ l)
+    (ap (λ k. used (paged_word i d pages) k 16) (let k : 131072 * leaf + 16 * place ≡ 16 * p = omega arith in k) ∙ used-no_page i d pages p e)
+    ∙ append-nil (used (paged_word i d pages) (131072 * leaf) (16 * place))
 
 pub next-leaf : (f : ℕ → Word) (leaf : ℕ) → used f 0 (131072 * (leaf + 1)) ≡ used f 0 (131072 * leaf) ++ used f (131072 * leaf) 131072
 next-leaf f leaf =
@@ -169,10 +169,10 @@ next-leaf f leaf =
     ∙ ap (λ k. used f 0 (131072 * leaf) ++ used f k 131072) (let k : 0 + 131072 * leaf ≡ 131072 * leaf = omega arith in k)
 
 pub next-no_leaf : (i : Image) (d : List ℕ) (pages : List Page) (leaf : ℕ) (made : Bool) → made ≡ false → (0 < get_or d leaf 0 → IsTrue made)
-    → used (word_of i d pages) 0 (131072 * (leaf + 1)) ≡ used (word_of i d pages) 0 (131072 * leaf)
+    → used (paged_word i d pages) 0 (131072 * (leaf + 1)) ≡ used (paged_word i d pages) 0 (131072 * leaf)
 next-no_leaf i d pages leaf made e told =
-    next-leaf (word_of i d pages) leaf ∙ ap (λ l. used (word_of i d pages) 0 (131072 * leaf) ++ l) (used-no_leaf i d pages leaf (no_number made e (get_or d leaf 0) told))
-    ∙ append-nil (used (word_of i d pages) 0 (131072 * leaf))
+    next-leaf (paged_word i d pages) leaf ∙ ap (λ l. used (paged_word i d pages) 0 (131072 * leaf) ++ l) (used-no_leaf i d pages leaf (no_number made e (get_or d leaf 0) told))
+    ∙ append-nil (used (paged_word i d pages) 0 (131072 * leaf))
   where
     no_number : (b : Bool) → b ≡ false → (n : ℕ) → (0 < n → IsTrue b) → n ≡ 0
     no_number true f n h = absurd (true≢false f)

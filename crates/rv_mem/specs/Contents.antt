@@ -4,7 +4,7 @@ use Rattle.std.specs.List.{Contains}
 use Rattle.rv_base.specs.declared.record.TableEntry.{TableEntry}
 use Rattle.rv_spec.specs.Elf.{Image}
 use Rattle.rv_spec.specs.Cells.{initial_value}
-use Rattle.rv_spec.specs.Form.{IsRising}
+use Rattle.rv_spec.specs.Grammar.{IsRising}
 
 -- The cells that were set, by rising number, each with its value and time. A time is above 0.
 pub record Contents : Type 0 where
@@ -12,16 +12,16 @@ pub record Contents : Type 0 where
   pub touched : List TableEntry
 
 -- the entry of a cell
-abbrev pub entry_of : List TableEntry → ℕ → Option TableEntry
-entry_of entries cell = find (λ e. e.cell == cell) entries
+abbrev pub entry_at : List TableEntry → ℕ → Option TableEntry
+entry_at entries cell = find (λ e. e.cell == cell) entries
 
 -- the value of a cell: the one that was set last, or the one that the program begins with
 unfoldable pub value_at : Contents → ℕ → ℕ
-value_at m cell = unwrap_or (option_map (λ e. e.value) (entry_of m.touched cell)) (initial_value m.image cell)
+value_at m cell = unwrap_or (option_map (λ e. e.value) (entry_at m.touched cell)) (initial_value m.image cell)
 
 -- the time at which it was set, or 0
 unfoldable pub time_at : Contents → ℕ → ℕ
-time_at m cell = unwrap_or (option_map (λ e. e.time) (entry_of m.touched cell)) 0
+time_at m cell = unwrap_or (option_map (λ e. e.time) (entry_at m.touched cell)) 0
 
 -- One cell was set, and no other changes.
 pub record IsSet (old new : Contents) (cell value time : ℕ) : Type 0 where

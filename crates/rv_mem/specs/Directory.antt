@@ -6,8 +6,8 @@ abbrev pub leaf_of : List ℕ → ℕ → ℕ
 leaf_of entries page = slice_index entries (page / 8192)
 
 -- the number of a page, from 1 on, or 0
-unfoldable pub number_of : List ℕ → ℕ → ℕ
-number_of entries page = if leaf_of entries page == 0 then 0 else slice_index entries (8192 * leaf_of entries page + page % 8192)
+unfoldable pub page_number : List ℕ → ℕ → ℕ
+page_number entries page = if leaf_of entries page == 0 then 0 else slice_index entries (8192 * leaf_of entries page + page % 8192)
 
 -- The directory is empty or has whole levels, each leaf that it names is there, and no two places name one leaf.
 pub record IsDirectory (entries : List ℕ) : Type 0 where

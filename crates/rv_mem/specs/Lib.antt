@@ -1,5 +1,5 @@
 pub mod Contents
 pub mod Directory
-pub mod Kept
+pub mod StoredCells
 pub mod Used
 pub mod Words

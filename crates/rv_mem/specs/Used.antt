@@ -7,8 +7,8 @@ abbrev pub no_word : Word
 no_word = record { value = 0; time = 0 }
 
 -- the word of a cell, where the cells of a list begin with some cell
-abbrev pub word_at : List Word → ℕ → ℕ → Word
-word_at words first cell = slice_index_or words (cell - first) no_word
+abbrev pub listed_word : List Word → ℕ → ℕ → Word
+listed_word words first cell = slice_index_or words (cell - first) no_word
 
 -- the entry of a cell, if it was used
 abbrev pub if_used : ℕ → Word → List TableEntry

@@ -1,7 +1,7 @@
 //! Which page holds which words: a directory of two levels.
 
 ghost use Rattle.std.specs.Prelude.{◌≡◌, ℕ, ◌+◌, ◌^◌, ◌<◌, ◌≢◌, ◌↔◌, IsTrue, MatchOption, OnOk, OnErr, length, slice_index};
-ghost use Rattle.rv_mem.specs.Directory.{IsDirectory, leaf_of, number_of};
+ghost use Rattle.rv_mem.specs.Directory.{IsDirectory, leaf_of, page_number};
 
 use rv_base::NoMemory;
 use std::alloc::Global;
@@ -20,7 +20,7 @@ pub struct Directory {
 impl Directory {
     /// A directory of no page.
     pub fn new(alloc: Global) -> Directory
-        ensures { (page : ℕ) → number_of result.entries.items page ≡ 0 }
+        ensures { (page : ℕ) → page_number result.entries.items page ≡ 0 }
     {
         Directory {
             entries: Vec::new(alloc),
@@ -30,7 +30,7 @@ impl Directory {
     /// The place of a page among those that were made, or `None` for one that was not.
     pub fn find(&self, page: usize) -> Option<usize>
         requires { page < 2 ^ 26 }
-        ensures { MatchOption result (number_of self.now.entries.items page ≡ 0) (λ index. number_of self.now.entries.items page ≡ index + 1) }
+        ensures { MatchOption result (page_number self.now.entries.items page ≡ 0) (λ index. page_number self.now.entries.items page ≡ index + 1) }
     {
         if self.entries.is_empty() {
             return None;
@@ -57,7 +57,7 @@ impl Directory {
     /// Makes the upper level and the leaf for a page, where they are not there.
     pub fn reserve(&mut self, page: usize) -> Result<(), NoMemory>
         requires { page < 2 ^ 26 }
-        ensures same { (other : ℕ) → other < 2 ^ 26 → number_of self.new.entries.items other ≡ number_of self.old.entries.items other }
+        ensures same { (other : ℕ) → other < 2 ^ 26 → page_number self.new.entries.items other ≡ page_number self.old.entries.items other }
         ensures made { OnOk result (0 < leaf_of self.new.entries.items page) }
     {
         if self.entries.is_empty() {
@@ -67,7 +67,7 @@ impl Directory {
     }
 
     fn make_upper_level(&mut self) -> Result<(), NoMemory>
-        ensures same { (other : ℕ) → number_of self.new.entries.items other ≡ number_of self.old.entries.items other }
+        ensures same { (other : ℕ) → page_number self.new.entries.items other ≡ page_number self.old.entries.items other }
         ensures made { OnOk result (0 < length self.new.entries.items) }
     {
         grow(&mut self.entries)
@@ -76,7 +76,7 @@ impl Directory {
     fn make_leaf(&mut self, page: usize) -> Result<(), NoMemory>
         requires in_memory { page < 2 ^ 26 }
         requires begun { 0 < length self.old.entries.items }
-        ensures same { (other : ℕ) → other < 2 ^ 26 → number_of self.new.entries.items other ≡ number_of self.old.entries.items other }
+        ensures same { (other : ℕ) → other < 2 ^ 26 → page_number self.new.entries.items other ≡ page_number self.old.entries.items other }
         ensures made { OnOk result (0 < leaf_of self.new.entries.items page) }
     {
         if self.entries[page / ENTRIES] != 0 {
@@ -94,8 +94,8 @@ impl Directory {
     pub fn enter(&mut self, page: usize, number: u32)
         requires in_memory { page < 2 ^ 26 }
         requires made { 0 < leaf_of self.old.entries.items page }
-        ensures entered { number_of self.new.entries.items page ≡ number }
-        ensures others { (other : ℕ) → other < 2 ^ 26 → other ≢ page → number_of self.new.entries.items other ≡ number_of self.old.entries.items other }
+        ensures entered { page_number self.new.entries.items page ≡ number }
+        ensures others { (other : ℕ) → other < 2 ^ 26 → other ≢ page → page_number self.new.entries.items other ≡ page_number self.old.entries.items other }
     {
         let leaf = self.entries[page / ENTRIES] as usize;
         self.entries[ENTRIES * leaf + page % ENTRIES] = number;

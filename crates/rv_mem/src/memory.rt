@@ -7,16 +7,11 @@ ghost use Rattle.rv_mem.specs.Contents.{value_at, time_at, IsSet, IsTable};
 use crate::page::list_used;
 use crate::word::Word;
 use crate::words::Words;
+use rv_base::cells::{REGISTER_CELLS, STACK_TOP};
 use rv_base::{NoMemory, TableEntry};
 use rv_elf::Image;
 use std::alloc::Global;
 use std::marker::Model;
-
-/// The cell of x0, which is never used. Those of the other registers and of the reservation follow.
-const REGISTERS: u32 = 1 << 30;
-
-/// Where x2 points at the start.
-const STACK: u32 = 0x7FFF_F000;
 
 /// The cells of a run, each with its value and the time of its last use, or 0. Cell `w` below 2^30 is word
 /// `w` of memory, cell 2^30 + `r` is register `r` from 1 to 31, and cell 2^30 + 32 is the reservation.
@@ -33,15 +28,15 @@ impl<'a> Model for Memory<'a> {
 
     ghost Value = { Contents };
 
-    ghost use Rattle.rv_mem.specs.Kept.{contents, IsBegun};
+    ghost use Rattle.rv_mem.specs.StoredCells.{contents, AreStoredCells};
 
     ghost view = { λ m. contents m.words m.registers };
 
-    ghost invariant = { λ m. IsBegun m.words m.registers };
+    ghost invariant = { λ m. AreStoredCells m.words m.registers };
 }
 
 impl<'a> Memory<'a> {
-    /// The cells before the first step, at time 0: the words of the image, x2 with 0x7FFFF000, and 0 in
+    /// The cells before the first step, at time 0: the words of the image, x2 with the top of the stack, and 0 in
     /// each other register and in the reservation.
     pub fn new(alloc: Global, image: &Image<'a>) -> Memory<'a>
         ensures image { result.image ≡ image.now }
@@ -49,7 +44,7 @@ impl<'a> Memory<'a> {
     {
         let mut registers = [Word { value: 0, time: 0 }; 33];
         registers[2] = Word {
-            value: STACK,
+            value: STACK_TOP,
             time: 0,
         };
         Memory {
@@ -64,11 +59,11 @@ impl<'a> Memory<'a> {
         ensures value { result.0 ≡ value_at self.now cell }
         ensures time { result.1 ≡ time_at self.now cell }
     {
-        if cell < REGISTERS {
+        if cell < REGISTER_CELLS {
             let word = self.words.get(cell);
             return (word.value, word.time);
         }
-        let word = self.registers[(cell - REGISTERS) as usize];
+        let word = self.registers[(cell - REGISTER_CELLS) as usize];
         (word.value, word.time)
     }
 
@@ -80,11 +75,11 @@ impl<'a> Memory<'a> {
         ensures err { OnErr result (self.new ≡ self.old) }
     {
         let word = Word { value, time };
-        if cell < REGISTERS {
+        if cell < REGISTER_CELLS {
             self.words.set(cell, word)?;
             return Ok(());
         }
-        self.registers[(cell - REGISTERS) as usize] = word;
+        self.registers[(cell - REGISTER_CELLS) as usize] = word;
         Ok(())
     }
 
@@ -94,7 +89,7 @@ impl<'a> Memory<'a> {
         ensures table { IfOk result (λ entries. IsTable self.now entries.items) }
     {
         let mut entries = self.words.touched()?;
-        list_used(REGISTERS, &self.registers, &mut entries)?;
+        list_used(REGISTER_CELLS, &self.registers, &mut entries)?;
         Ok(entries)
     }
 }

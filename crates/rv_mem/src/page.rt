@@ -1,7 +1,7 @@
 //! Words with times, and pages of them.
 
 ghost use Rattle.std.specs.Prelude.{◌≡◌, ℕ, ◌+◌, ◌^◌, ◌≤◌, ◌++◌, OnOk, length};
-ghost use Rattle.rv_mem.specs.Used.{used, word_at};
+ghost use Rattle.rv_mem.specs.Used.{used, listed_word};
 
 use crate::word::Word;
 use rv_base::{NoMemory, TableEntry};
@@ -16,7 +16,7 @@ pub struct Page {
 /// Adds the used words of a list, whose cells begin with `first`, to a list of entries.
 pub fn list_used(first: u32, words: &[Word], entries: &mut Vec<TableEntry>) -> Result<(), NoMemory>
     requires { first + length words.now ≤ 2 ^ 32 }
-    ensures { OnOk result (entries.new.items ≡ entries.old.items ++ used (word_at words.now first) first (length words.now)) }
+    ensures { OnOk result (entries.new.items ≡ entries.old.items ++ used (listed_word words.now first) first (length words.now)) }
 {
     for (i, word) in words.iter().enumerate() {
         if word.time > 0 {

@@ -1,7 +1,7 @@
 //! The words of memory: those of the image, until the first one of a page is set.
 
 ghost use Rattle.std.specs.Prelude.{◌≡◌, ℕ, ◌+◌, ◌*◌, ◌^◌, ◌<◌, ◌≢◌, ◌++◌, IfOk, OnOk, OnErr, slice_index_or};
-ghost use Rattle.rv_mem.specs.Directory.{number_of};
+ghost use Rattle.rv_mem.specs.Directory.{page_number};
 ghost use Rattle.rv_mem.specs.Used.{no_word, used};
 ghost use Rattle.rv_mem.specs.Words.{ArePages, first_word};
 
@@ -22,12 +22,12 @@ pub struct Words<'a> {
 }
 
 impl<'a> Words<'a> {
-    ghost use Rattle.rv_mem.specs.Kept.{kept};
+    ghost use Rattle.rv_mem.specs.StoredCells.{stored_word};
 
     /// The words of an image, none of which was set.
     pub fn new(alloc: Global, image: Image<'a>) -> Words<'a>
         ensures image { result.image ≡ image.entry }
-        ensures begun { (w : ℕ) → kept result w ≡ first_word image.entry w }
+        ensures begun { (w : ℕ) → stored_word result w ≡ first_word image.entry w }
     {
         Words {
             image,
@@ -39,7 +39,7 @@ impl<'a> Words<'a> {
     /// Word `w` of memory.
     pub fn get(&self, w: u32) -> Word
         requires { w < 2 ^ 30 }
-        ensures { result ≡ kept self.now w }
+        ensures { result ≡ stored_word self.now w }
     {
         match self.directory.find(w as usize / 16) {
             Some(index) => self.pages[index].words[w as usize % 16],
@@ -54,9 +54,9 @@ impl<'a> Words<'a> {
     pub fn set(&mut self, w: u32, word: Word) -> Result<(), NoMemory>
         requires { w < 2 ^ 30 }
         ensures image { self.new.image ≡ self.old.image }
-        ensures ok { OnOk result (kept self.new w ≡ word) }
-        ensures err { OnErr result (kept self.new w ≡ kept self.old w) }
-        ensures others { (other : ℕ) → other < 2 ^ 30 → other ≢ w → kept self.new other ≡ kept self.old other }
+        ensures ok { OnOk result (stored_word self.new w ≡ word) }
+        ensures err { OnErr result (stored_word self.new w ≡ stored_word self.old w) }
+        ensures others { (other : ℕ) → other < 2 ^ 30 → other ≢ w → stored_word self.new other ≡ stored_word self.old other }
     {
         let index = self.page_for(w as usize / 16)?;
         self.pages[index].words[w as usize % 16] = word;
@@ -67,8 +67,8 @@ impl<'a> Words<'a> {
     fn page_for(&mut self, page: usize) -> Result<usize, NoMemory>
         requires { page < 2 ^ 26 }
         ensures image { self.new.image ≡ self.old.image }
-        ensures made { IfOk result (λ index. number_of self.new.directory.entries.items page ≡ index + 1) }
-        ensures same { (w : ℕ) → w < 2 ^ 30 → kept self.new w ≡ kept self.old w }
+        ensures made { IfOk result (λ index. page_number self.new.directory.entries.items page ≡ index + 1) }
+        ensures same { (w : ℕ) → w < 2 ^ 30 → stored_word self.new w ≡ stored_word self.old w }
     {
         match self.directory.find(page) {
             Some(index) => Ok(index),
@@ -79,10 +79,10 @@ impl<'a> Words<'a> {
     /// Makes a page with the words of the image, and gives its place.
     fn add_page(&mut self, page: usize) -> Result<usize, NoMemory>
         requires in_memory { page < 2 ^ 26 }
-        requires absent { number_of self.old.directory.entries.items page ≡ 0 }
+        requires absent { page_number self.old.directory.entries.items page ≡ 0 }
         ensures image { self.new.image ≡ self.old.image }
-        ensures made { IfOk result (λ index. number_of self.new.directory.entries.items page ≡ index + 1) }
-        ensures same { (w : ℕ) → w < 2 ^ 30 → kept self.new w ≡ kept self.old w }
+        ensures made { IfOk result (λ index. page_number self.new.directory.entries.items page ≡ index + 1) }
+        ensures same { (w : ℕ) → w < 2 ^ 30 → stored_word self.new w ≡ stored_word self.old w }
     {
         self.directory.reserve(page)?;
         let index = self.pages.len();
@@ -99,7 +99,7 @@ impl<'a> Words<'a> {
 
     /// The words that were used, by rising number.
     pub fn touched(&self) -> Result<Vec<TableEntry>, NoMemory>
-        ensures { IfOk result (λ entries. entries.items ≡ used (kept self.now) 0 (2 ^ 30)) }
+        ensures { IfOk result (λ entries. entries.items ≡ used (stored_word self.now) 0 (2 ^ 30)) }
     {
         let mut entries = Vec::new(*self.pages.allocator());
         for leaf in 0..ENTRIES {
@@ -113,7 +113,7 @@ impl<'a> Words<'a> {
     /// Adds the used words of a leaf's pages, by rising number.
     fn leaf_touched(&self, leaf: usize, entries: &mut Vec<TableEntry>) -> Result<(), NoMemory>
         requires { leaf < 8192 }
-        ensures { OnOk result (entries.new.items ≡ entries.old.items ++ used (kept self.now) (131072 * leaf) 131072) }
+        ensures { OnOk result (entries.new.items ≡ entries.old.items ++ used (stored_word self.now) (131072 * leaf) 131072) }
     {
         for place in 0..ENTRIES {
             let page = ENTRIES * leaf + place;

@@ -6,14 +6,15 @@ use Rattle.std.proofs.lemmas.Bool.{cases_order, ne_eqb}
 use Rattle.rv_base.specs.declared.record.TableEntry.{TableEntry}
 use Rattle.rv_base.specs.declared.record.Tuple.{Tuple}
 use Rattle.rv_spec.specs.Trace.{last_use, left_at, last_entry, rising, table_of}
-use Rattle.rv_spec.specs.Lists.{Event, tuple_read, tuple_written, tuple_last, tuple_first, all_read, all_written}
-use Rattle.rv_spec.specs.Form.{IsRising}
+use Rattle.rv_spec.specs.Tuples.{Event, tuple_read, tuple_written, tuple_last, tuple_first, all_read, all_written}
+use Rattle.rv_spec.specs.Grammar.{IsRising}
 use Rattle.rv_spec.specs.Multiset.{Same, count, same_tuple}
-use Rattle.rv_spec.specs.Chain.{AllDiffer, AreOrdered, IsChain, value_before}
-use Rattle.rv_spec.proofs.ChainCore.{In, in-map, in-count, count-in}
-use Rattle.rv_spec.proofs.ChainLaws.{left_at-is}
-use Rattle.rv_spec.proofs.Members.{in-append, in-left, in-right, in-map-back, all-in, all-of, rising-in, in-rising, rising-rises}
-use Rattle.rv_spec.proofs.MultisetLaws.{count-cons, same_tuple-true}
+use Rattle.rv_rules.specs.Chain.{AllDiffer, AreOrdered, IsChain, value_before}
+use Rattle.rv_rules.specs.Membership.{In}
+use Rattle.rv_rules.proofs.Lemmas.{in-map, in-count, count-in}
+use Rattle.rv_rules.proofs.Lemmas.{left_at-is}
+use Rattle.rv_rules.proofs.Lemmas.{in-append, in-left, in-right, in-map-back, all-in, all-of, rising-in, in-rising, rising-rises}
+use Rattle.rv_rules.proofs.Lemmas.{count-cons, same_tuple-true}
 use Rattle.rv_order.specs.OwnTimes.{HaveOwnTimes}
 use Rattle.rv_order.proofs.LastUse.{last_use-most, last_use-in, last_use-lt}
 use Rattle.rv_order.proofs.Pigeonhole.{same_from_le}
@@ -121,7 +122,7 @@ module _ (initial : ℕ → ℕ) (es : List Event) (table : List TableEntry) (bo
     differ = o.differ;
     earlier = all-of (λ e. e.prev < e.time) es (λ e m. omega (arith, all-in (λ e. e.prev ≡ last_use own e.cell e.time) es c.times e m, last_use-lt own e.cell e.time (positive e m)));
     below = o.below;
-    late = all-of (λ t. 0 < t.time) table late;
+    after_start = all-of (λ t. 0 < t.time) table late;
     rising = subst IsRising (sym cells) (rising-rises (map (λ w. w.cell) own));
   }
 

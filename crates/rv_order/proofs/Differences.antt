@@ -6,9 +6,9 @@ use Rattle.std.proofs.lemmas.List.Sorted.{sum_by-IsPermutation}
 use Rattle.std.specs.List.{AllByRecursion}
 use Rattle.rv_base.specs.declared.record.Tuple.{Tuple}
 use Rattle.rv_spec.specs.Multiset.{count, same_tuple, Same}
-use Rattle.rv_spec.proofs.MultisetLaws.{count-cons}
-use Rattle.rv_spec.proofs.ChainCore.{count-in, in-count}
-use Rattle.rv_spec.proofs.Members.{all-in, all-of}
+use Rattle.rv_rules.proofs.Lemmas.{count-cons}
+use Rattle.rv_rules.proofs.Lemmas.{count-in, in-count}
+use Rattle.rv_rules.proofs.Lemmas.{all-in, all-of}
 use Rattle.rv_order.specs.Order.{IsBefore, IsInOrder, IsLeastDiffering}
 use Rattle.rv_order.proofs.TupleOrder.{tuple_cmp, cases_before, lt_from_before, not_lt_from_after, before-trans, before-irreflexive, before-not_before}
 

@@ -3,9 +3,10 @@ use Rattle.std.proofs.Common.{◌≡◌, ◌⊎◌, ℕ, ◌<◌, ◌≤◌, max
 use Rattle.std.proofs.lemmas.Bool.{cases_lt, and_from, eqb-true, eq-eqb, lt-ltb, ltb-true}
 use Rattle.rv_base.specs.declared.record.Tuple.{Tuple}
 use Rattle.rv_spec.specs.Trace.{last_use}
-use Rattle.rv_spec.proofs.MultisetLaws.{left_true, right_true}
-use Rattle.rv_spec.proofs.ChainCore.{In, in-map}
-use Rattle.rv_spec.proofs.Members.{in-map-back}
+use Rattle.rv_rules.proofs.Lemmas.{left_true, right_true}
+use Rattle.rv_rules.specs.Membership.{In}
+use Rattle.rv_rules.proofs.Lemmas.{in-map}
+use Rattle.rv_rules.proofs.Lemmas.{in-map-back}
 
 fold-start : (a : ℕ) (xs : List ℕ) → a ≤ fold max a xs
 fold-start a [] = omega arith

@@ -4,8 +4,8 @@ use Rattle.std.specs.Prelude.{sum_by}
 use Rattle.std.proofs.lemmas.List.Sums.{sum_by-cons}
 use Rattle.rv_base.specs.declared.record.Tuple.{Tuple}
 use Rattle.rv_spec.specs.Multiset.{same_tuple, count}
-use Rattle.rv_spec.proofs.MultisetLaws.{count-cons, without, sum_by-without}
-use Rattle.rv_spec.proofs.ChainCore.{in-count}
+use Rattle.rv_rules.proofs.Lemmas.{count-cons, without, sum_by-without}
+use Rattle.rv_rules.proofs.Lemmas.{in-count}
 
 count-without : (t x : Tuple) (ys : List Tuple) → 0 < count x ys → count t ys ≡ cond (same_tuple t x) 1 0 + count t (without x ys)
 unfolding count

@@ -4,7 +4,7 @@ use Rattle.std.specs.Ordering.{ordering_then}
 use Rattle.std.specs.Cmp.{nat_cmp_is}
 use Rattle.std.proofs.lemmas.Bool.{cases_order, and_from, eq-eqb}
 use Rattle.rv_base.specs.declared.record.Tuple.{Tuple}
-use Rattle.rv_spec.proofs.Members.{all-in, all-of}
+use Rattle.rv_rules.proofs.Lemmas.{all-in, all-of}
 use Rattle.rv_order.specs.Order.{IsBefore, IsInOrder}
 
 -- the derived order, of tuples whose numbers compare by c

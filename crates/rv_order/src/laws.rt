@@ -4,9 +4,9 @@
 ghost use Rattle.std.specs.Prelude.{◌≡◌, ℕ, List};
 ghost use Rattle.rv_base.specs.declared.Tuple.{Tuple};
 ghost use Rattle.rv_base.specs.declared.TableEntry.{TableEntry};
-ghost use Rattle.rv_spec.specs.Chain.{AreOrdered, IsChain, WrittenOnce};
+ghost use Rattle.rv_rules.specs.Chain.{AreOrdered, IsChain, WrittenOnce};
 ghost use Rattle.rv_spec.specs.Digest.{Lanes, digest};
-ghost use Rattle.rv_spec.specs.Lists.{Event, all_read, all_written};
+ghost use Rattle.rv_spec.specs.Tuples.{Event, all_read, all_written};
 ghost use Rattle.rv_spec.specs.Multiset.{Same};
 ghost use Rattle.rv_order.specs.OwnTimes.{HaveOwnTimes};
 

@@ -1,7 +1,7 @@
 -- Steps that may refuse, one after another.
 use Rattle.std.proofs.Common.{◌≡◌, ℕ, List, Option, Some, None, Result, Ok, Err, refl, ap}
 use Rattle.rv_base.specs.declared.record.Refusal.{Refusal}
-use Rattle.rv_spec.specs.Checks.{Check, first_broken, refused_by, unless_broken, ◌>>=◌}
+use Rattle.rv_rules.specs.Checks.{Check, first_broken, refused_by, unless_broken, ◌>>=◌}
 
 pub bind_assoc : {A B C : Type 0} (r : Result A Refusal) (f : A → Result B Refusal) (g : B → Result C Refusal) → ((r >>= f) >>= g) ≡ (r >>= λ x. f x >>= g)
 bind_assoc (Ok x) f g = refl

@@ -3,7 +3,7 @@ use Rattle.std.proofs.Common.{◌≡◌, ℕ, ◌≤◌, Bool, true, false, cond
 use Rattle.std.proofs.lemmas.Bool.{leb-true, le-leb, eqb-false, not-true, and_parts}
 use Rattle.std.proofs.lemmas.List.{length-append}
 use Rattle.rv_base.specs.declared.record.Refusal.{Refusal}
-use Rattle.rv_spec.specs.Checks.{Check, first_broken, refused_by, unless_broken}
+use Rattle.rv_rules.specs.Checks.{Check, first_broken, refused_by, unless_broken}
 
 -- ---- what a list of checks answers
 

@@ -11,11 +11,11 @@ use Rattle.rv_base.specs.declared.record.Refusal.{Refusal}
 use Rattle.rv_base.specs.declared.record.TableEntry.{TableEntry}
 use Rattle.rv_spec.specs.Words.{u32_at}
 use Rattle.rv_spec.specs.Digest.{Lanes}
-use Rattle.rv_spec.specs.Lists.{Event, events, tuple_read, tuple_written, tuple_last}
+use Rattle.rv_spec.specs.Tuples.{Event, events, tuple_read, tuple_written, tuple_last}
 use Rattle.rv_spec.specs.Record.{Shard, Parts, reads as reads_of, writes as writes_of}
-use Rattle.rv_spec.specs.Checks.{Check, first_broken, unless_broken, ◌>>=◌}
-use Rattle.rv_spec.specs.Verdict.{verdict_of, judge}
-use Rattle.rv_spec.specs.Reading.{Reading, header_of, header_checks, read_shards, read_entries, end_checks, first_place, read_file}
+use Rattle.rv_rules.specs.Checks.{Check, first_broken, unless_broken, ◌>>=◌}
+use Rattle.rv_rules.specs.Verdict.{verdict_of, judge}
+use Rattle.rv_rules.specs.Reading.{Reading, header_of, header_checks, read_shards, read_entries, end_checks, first_place, read_file}
 use Rattle.rv_reading.specs.Stream.{State, reads, onwards}
 use Rattle.rv_reading.specs.Machine.{Phase, no_sums, tuple_sums, event_sums, shards_events, first_tuple, last_cell, step, step_to, judged, finding, told}
 use Rattle.rv_reading.specs.Machine.Phase.{Shards, Rows, Entries}
@@ -33,15 +33,15 @@ use Rattle.rv_reading.proofs.ShardsEvents.{FullShards, events_are}
 abbrev seen : {A : Type 0} → A → Result (Unit {0}) Refusal
 seen a = Ok tt
 
-module _ (against : Bool) (lanes : Lanes) (elf input : List ℕ) (h : Header) (output : List ℕ) where
+module _ (complete : Bool) (lanes : Lanes) (elf input : List ℕ) (h : Header) (output : List ℕ) where
   abbrev run : Phase → List ℕ → State Phase
-  run p bytes = runs against lanes elf input h output WholeFile p bytes
+  run p bytes = runs complete lanes elf input h output WholeFile p bytes
 
   abbrev parts_of : Reading (List Shard) → List TableEntry × List ℕ → Parts
   parts_of shards entries = record { header = h; output = output; shards = shards.part; table = entries.0 }
 
   abbrev closed : Reading (List Shard) → List TableEntry × List ℕ → Result Parts Refusal
-  closed shards entries = unless_broken h.shards (u32_at shards.left 0) (end_checks against lanes elf input h (parts_of shards entries) shards.place entries.1) (parts_of shards entries)
+  closed shards entries = unless_broken h.shards (u32_at shards.left 0) (end_checks complete lanes elf input h (parts_of shards entries) shards.place entries.1) (parts_of shards entries)
 
   -- what `read_file` does behind the shards
   abbrev behind : Reading (List Shard) → Result Parts Refusal
@@ -55,7 +55,7 @@ module _ (against : Bool) (lanes : Lanes) (elf input : List ℕ) (h : Header) (o
 
   -- the end of the file, behind these shards and entries
   end_is_read : (shards : Reading (List Shard)) (entries : List TableEntry × List ℕ)
-      → finding (behind_entries against lanes elf input h output WholeFile (u32_at shards.left 0) None shards.place (map tuple_read (all_events shards)) (map tuple_written (all_events shards)) entries)
+      → finding (behind_entries complete lanes elf input h output WholeFile (u32_at shards.left 0) None shards.place (map tuple_read (all_events shards)) (map tuple_written (all_events shards)) entries)
       ≡ finding (closed shards entries)
   unfolding reads_of writes_of
   end_is_read shards entries =
@@ -63,11 +63,11 @@ module _ (against : Bool) (lanes : Lanes) (elf input : List ℕ) (h : Header) (o
       let es = all_events shards in
       let rs = map tuple_read es ++ map tuple_last entries.0 in
       let ws = map tuple_written es ++ map (first_tuple elf h) entries.0 in
-      let here : Phase × List ℕ = (Entries 0 count (last_cell None entries.0) shards.place (tuple_sums against lanes rs ws), entries.1) in
-      ap finding (end_read against lanes elf input h output count (last_cell None entries.0) shards.place rs ws entries.1)
-      ∙ checks_bind h.shards count (end_checks against lanes elf input h (parts_of shards entries) shards.place entries.1) here (parts_of shards entries) seen seen refl
+      let here : Phase × List ℕ = (Entries 0 count (last_cell None entries.0) shards.place (tuple_sums complete lanes rs ws), entries.1) in
+      ap finding (end_read complete lanes elf input h output count (last_cell None entries.0) shards.place rs ws entries.1)
+      ∙ checks_bind h.shards count (end_checks complete lanes elf input h (parts_of shards entries) shards.place entries.1) here (parts_of shards entries) seen seen refl
 
-  table_is_read : (last : ℕ) (shards : Reading (List Shard)) → finding (run (Shards 0 last shards.place (event_sums against lanes (all_events shards))) shards.left) ≡ finding (behind shards)
+  table_is_read : (last : ℕ) (shards : Reading (List Shard)) → finding (run (Shards 0 last shards.place (event_sums complete lanes (all_events shards))) shards.left) ≡ finding (behind shards)
   table_is_read last shards =
       let bytes = shards.left in
       let count = u32_at bytes 0 in
@@ -75,50 +75,50 @@ module _ (against : Bool) (lanes : Lanes) (elf input : List ℕ) (h : Header) (o
       let p = shards.place in
       let rs = map tuple_read (all_events shards) in
       let ws = map tuple_written (all_events shards) in
-      let sums = tuple_sums against lanes rs ws in
+      let sums = tuple_sums complete lanes rs ws in
       let cs : List Check = (1, nat_le 4 (length bytes)) ∷ [] in
       let from : List ℕ → Result (List TableEntry × List ℕ) Refusal = λ z. read_entries count h 0 None z in
       let whole : List ℕ → Result Parts Refusal = λ z. from z >>= closed shards in
-      let entries_behind : List TableEntry × List ℕ → State Phase = behind_entries against lanes elf input h output WholeFile count None p rs ws in
+      let entries_behind : List TableEntry × List ℕ → State Phase = behind_entries complete lanes elf input h output WholeFile count None p rs ws in
       let onwards_from : Option (Phase × List ℕ) → State Phase = onwards run (Shards 0 last p sums, bytes) in
       let inner : finding (run (Entries count 0 None p sums) rest) ≡ finding (whole rest) =
-      ap finding (entries_read against lanes elf input h output WholeFile count 0 count None p rs ws rest (omega arith))
+      ap finding (entries_read complete lanes elf input h output WholeFile count 0 count None p rs ws rest (omega arith))
       ∙ bind_assoc (from rest) entries_behind seen
       ∙ bind_same (from rest) (λ x. finding (entries_behind x)) (λ x. finding (closed shards x)) (λ x _. end_is_read shards x)
       ∙ sym (bind_assoc (from rest) (closed shards) seen) in
-      ap finding (count_step against lanes elf input h output WholeFile refl last p sums bytes)
+      ap finding (count_step complete lanes elf input h output WholeFile refl last p sums bytes)
       ∙ bind_assoc (unless_broken h.shards 0 cs (Some (Entries count 0 None p sums, rest))) onwards_from seen
       ∙ checks_bind h.shards 0 cs (Some (Entries count 0 None p sums, rest)) rest (λ x. finding (onwards_from x)) (λ z. finding (whole z)) inner
       ∙ sym (bind_assoc (unless_broken h.shards 0 cs rest) whole seen)
 
   -- from the first shard to the end
   shards_and_table_are_read : (p : Place) (bytes : List ℕ) → FullShards h
-      → finding (run (Shards h.shards 0 p no_sums) bytes) ≡ finding (read_shards against lanes elf input h.shards h output 0 p bytes >>= behind)
+      → finding (run (Shards h.shards 0 p no_sums) bytes) ≡ finding (read_shards complete lanes elf input h.shards h output 0 p bytes >>= behind)
   shards_and_table_are_read p bytes full_shards =
-      let shards = read_shards against lanes elf input h.shards h output 0 p bytes in
-      let shards_behind : Reading (List Shard) → State Phase = behind_shards against lanes elf input h output WholeFile h.shards 0 [] in
+      let shards = read_shards complete lanes elf input h.shards h output 0 p bytes in
+      let shards_behind : Reading (List Shard) → State Phase = behind_shards complete lanes elf input h output WholeFile h.shards 0 [] in
       let later : (x : Reading (List Shard)) → shards ≡ Ok x → finding (shards_behind x) ≡ finding (behind x) = λ x ok.
       let none : 0 * h.size ≡ 0 = omega arith in
       let es : shards_events h 0 x.part ≡ all_events x =
-      events_are against lanes elf input h output h.shards 0 p bytes x full_shards (omega arith) ok ∙ ap (λ k. events k (flat_map (λ s. s.rows) x.part)) none in
-      ap (λ z. finding (run (Shards 0 h.shards x.place (event_sums against lanes z)) x.left)) es ∙ table_is_read h.shards x in
-      ap (λ z. finding (run (Shards h.shards 0 p z) bytes)) (no_sums-sums against lanes)
-      ∙ ap finding (shards_read against lanes elf input h output WholeFile h.shards 0 h.shards [] p bytes (omega arith))
+      events_are complete lanes elf input h output h.shards 0 p bytes x full_shards (omega arith) ok ∙ ap (λ k. events k (flat_map (λ s. s.rows) x.part)) none in
+      ap (λ z. finding (run (Shards 0 h.shards x.place (event_sums complete lanes z)) x.left)) es ∙ table_is_read h.shards x in
+      ap (λ z. finding (run (Shards h.shards 0 p z) bytes)) (no_sums-sums complete lanes)
+      ∙ ap finding (shards_read complete lanes elf input h output WholeFile h.shards 0 h.shards [] p bytes (omega arith))
       ∙ bind_assoc shards shards_behind seen
       ∙ bind_same shards (λ x. finding (shards_behind x)) (λ x. finding (behind x)) later
       ∙ sym (bind_assoc shards behind seen)
 
-  step_to_file : (p : Phase) (xs : List ℕ) → step_to against lanes elf input h output WholeFile p xs ≡ step against lanes elf input h output p xs
+  step_to_file : (p : Phase) (xs : List ℕ) → step_to complete lanes elf input h output WholeFile p xs ≡ step complete lanes elf input h output p xs
   step_to_file (Shards zero i p all) xs = refl
   step_to_file (Shards (suc n) i p all) xs = refl
   step_to_file (Rows n r m i s p all) xs = refl
   step_to_file (Entries zero j before p all) xs = refl
   step_to_file (Entries (suc n) j before p all) xs = refl
 
-  pub whole_file_is_read : WholeFileIsRead against lanes elf input h output
+  pub whole_file_is_read : WholeFileIsRead complete lanes elf input h output
   whole_file_is_read p bytes = λ t. reads (λ q zs. step_to_file q zs t) p bytes
 
-module _ (against : Bool) (lanes : Lanes) (elf input : List ℕ) where
+module _ (complete : Bool) (lanes : Lanes) (elf input : List ℕ) where
   more_than : (i q size steps : ℕ) → i + 2 ≤ q → q * size < steps + size → i * size + size ≤ steps
   more_than i q size steps le lt =
       let big : (i + 2) * size ≤ q * size = mul-le-mul_right size le in
@@ -126,54 +126,54 @@ module _ (against : Bool) (lanes : Lanes) (elf input : List ℕ) where
       omega (arith, big, is, lt)
 
   -- a header whose checks hold states as many shards as the steps fill
-  shards_are_full : (file : List ℕ) → first_broken (header_checks against lanes elf input file) ≡ None → FullShards (header_of file)
+  shards_are_full : (file : List ℕ) → first_broken (header_checks complete lanes elf input file) ≡ None → FullShards (header_of file)
   shards_are_full file e i lt =
       let h = header_of file in
       let shards_are : Bool = h.shards == div_ceil h.steps h.size in
-      let from_fifth = (all_hold (header_checks against lanes elf input file) e).1.1.1.1 in
+      let from_fifth = (all_hold (header_checks complete lanes elf input file) e).1.1.1.1 in
       let size : 1 ≤ h.size = leb-true 1 h.size (and_parts (nat_le 1 h.size) (nat_le h.size 65536) from_fifth.0).0 in
       let counts = (and_parts (nat_le 1 h.steps && shards_are) (nat_le h.shards 65536) from_fifth.1.0).0 in
       let number : h.shards ≡ div_ceil h.steps h.size = eqb-true h.shards (div_ceil h.steps h.size) (and_parts (nat_le 1 h.steps) shards_are counts).1 in
       let bound : div_ceil h.steps h.size * h.size < h.steps + h.size = (div_ceil_times h.steps h.size (omega (arith, size))).1 in
       more_than i (div_ceil h.steps h.size) h.size h.steps (omega (arith, lt, number)) bound
 
-  judged_is_read_so : (file : List ℕ) → finding (judged against lanes elf input file) ≡ finding (read_file against lanes elf input file)
+  judged_is_read_so : (file : List ℕ) → finding (judged complete lanes elf input file) ≡ finding (read_file complete lanes elf input file)
   unfolding read_file
   judged_is_read_so file =
       let h = header_of file in
-      let cs = header_checks against lanes elf input file in
-      let p = first_place against lanes elf input in
-      let machine : List ℕ → State Phase = λ z. reads (step against lanes elf input h (take h.length z)) (Shards h.shards 0 p no_sums) (drop h.length z) in
-      let whole : List ℕ → Result Parts Refusal = λ z. read_shards against lanes elf input h.shards h (take h.length z) 0 p (drop h.length z) >>= behind against lanes elf input h (take h.length z) in
+      let cs = header_checks complete lanes elf input file in
+      let p = first_place complete lanes elf input h in
+      let machine : List ℕ → State Phase = λ z. reads (step complete lanes elf input h (take h.length z)) (Shards h.shards 0 p no_sums) (drop h.length z) in
+      let whole : List ℕ → Result Parts Refusal = λ z. read_shards complete lanes elf input h.shards h (take h.length z) 0 p (drop h.length z) >>= behind complete lanes elf input h (take h.length z) in
       let front = unless_broken 0 0 cs (drop 173 file) in
       bind_assoc front machine seen
       ∙ checks_same 0 0 cs (drop 173 file) (λ z. finding (machine z)) (λ z. finding (whole z)) (λ e.
       let output = take h.length (drop 173 file) in
       let bytes = drop h.length (drop 173 file) in
-      sym (ap finding (whole_file_is_read against lanes elf input h output (Shards h.shards 0 p no_sums) bytes)) ∙ shards_and_table_are_read against lanes elf input h output p bytes (shards_are_full file e))
+      sym (ap finding (whole_file_is_read complete lanes elf input h output (Shards h.shards 0 p no_sums) bytes)) ∙ shards_and_table_are_read complete lanes elf input h output p bytes (shards_are_full file e))
       ∙ sym (bind_assoc front whole seen)
 
   -- the header of the parts is that of the file
-  header_kept : (file : List ℕ) (x : Parts) → read_file against lanes elf input file ≡ Ok x → x.header ≡ header_of file
+  header_kept : (file : List ℕ) (x : Parts) → read_file complete lanes elf input file ≡ Ok x → x.header ≡ header_of file
   unfolding read_file
   header_kept file x e =
       let h = header_of file in
-      let p = first_place against lanes elf input in
-      let shards_from : List ℕ → Result (Reading (List Shard)) Refusal = λ z. read_shards against lanes elf input h.shards h (take h.length z) 0 p (drop h.length z) in
-      let a = bind_ok (unless_broken 0 0 (header_checks against lanes elf input file) (drop 173 file)) (λ z. shards_from z >>= behind against lanes elf input h (take h.length z)) x e in
+      let p = first_place complete lanes elf input h in
+      let shards_from : List ℕ → Result (Reading (List Shard)) Refusal = λ z. read_shards complete lanes elf input h.shards h (take h.length z) 0 p (drop h.length z) in
+      let a = bind_ok (unless_broken 0 0 (header_checks complete lanes elf input file) (drop 173 file)) (λ z. shards_from z >>= behind complete lanes elf input h (take h.length z)) x e in
       let output = take h.length a.0 in
-      let b = bind_ok (shards_from a.0) (behind against lanes elf input h output) x a.2 in
+      let b = bind_ok (shards_from a.0) (behind complete lanes elf input h output) x a.2 in
       let s = b.0 in
       let count = u32_at s.left 0 in
-      let end : List TableEntry × List ℕ → Result Parts Refusal = closed against lanes elf input h output s in
-      let made : List TableEntry × List ℕ → Parts = parts_of against lanes elf input h output s in
+      let end : List TableEntry × List ℕ → Result Parts Refusal = closed complete lanes elf input h output s in
+      let made : List TableEntry × List ℕ → Parts = parts_of complete lanes elf input h output s in
       let c = bind_ok (unless_broken h.shards 0 ((1, nat_le 4 (length s.left)) ∷ []) (drop 4 s.left)) (λ z. read_entries count h 0 None z >>= end) x b.2 in
       let d = bind_ok (read_entries count h 0 None c.0) end x c.2 in
-      ap (λ (z : Parts). z.header) (sym (refused_by_ok h.shards count (first_broken (end_checks against lanes elf input h (made d.0) s.place d.0.1)) (made d.0) x d.2).1)
+      ap (λ (z : Parts). z.header) (sym (refused_by_ok h.shards count (first_broken (end_checks complete lanes elf input h (made d.0) s.place d.0.1)) (made d.0) x d.2).1)
 
 -- The law of the machine.
 pub judged_is_read : JudgedIsRead
-judged_is_read against lanes elf input file = judged_is_read_so against lanes elf input file
+judged_is_read complete lanes elf input file = judged_is_read_so complete lanes elf input file
 
 -- The law of the verdict.
 pub verdict_is_told : VerdictIsTold

@@ -12,5 +12,5 @@ pub mod ShardsEvents
 pub mod FileRead
 pub mod FrontRead
 pub mod Pieces
-pub mod Laws
+pub mod Lemmas
 pub mod Worked

@@ -4,8 +4,8 @@ use Rattle.std.proofs.lemmas.List.{append-nil}
 use Rattle.rv_base.specs.declared.record.Header.{Header}
 use Rattle.rv_base.specs.declared.record.Refusal.{Refusal}
 use Rattle.rv_spec.specs.Digest.{Lanes}
-use Rattle.rv_spec.specs.Checks.{first_broken, refused_by}
-use Rattle.rv_spec.specs.Reading.{header_of, header_checks}
+use Rattle.rv_rules.specs.Checks.{first_broken, refused_by}
+use Rattle.rv_rules.specs.Reading.{header_of, header_checks}
 use Rattle.rv_reading.specs.Stream.{State, StepOf, reads, patient, feed, outcome}
 use Rattle.rv_reading.specs.Machine.{Phase, step, first_phase, opened}
 use Rattle.rv_reading.specs.Judging.{IsFront, state_behind, StateTellsFile, FileStaysRefused, FileStateWaits, MachineIsStream, ExtentsAreStreams, InEachStream, PiecesJoin, CutsDontMatter, StateTellsRefusals, RefusalsStay, StatesWait}
@@ -31,59 +31,59 @@ state_tells_refusals move is p bytes r = (
   λ f. state_tells move is p bytes r f.0 f.1,
 )
 
-module _ (against : Bool) (lanes : Lanes) (elf input : List ℕ) (h : Header) (output : List ℕ) where
-  pub machine_is_stream : MachineIsStream against lanes elf input h output
-  machine_is_stream = step-is_stream against lanes elf input h output
+module _ (complete : Bool) (lanes : Lanes) (elf input : List ℕ) (h : Header) (output : List ℕ) where
+  pub machine_is_stream : MachineIsStream complete lanes elf input h output
+  machine_is_stream = step-is_stream complete lanes elf input h output
 
-  pub extents_are_streams : ExtentsAreStreams against lanes elf input h output
-  extents_are_streams extent = step_to-is_stream against lanes elf input h output extent
+  pub extents_are_streams : ExtentsAreStreams complete lanes elf input h output
+  extents_are_streams extent = step_to-is_stream complete lanes elf input h output extent
 
-  pub states_wait : StatesWait against lanes elf input h output
+  pub states_wait : StatesWait complete lanes elf input h output
   states_wait p bytes s e =
-      let waiting = state_waits (step against lanes elf input h output) machine_is_stream p bytes s e in
-      (waiting, waits_below against lanes elf input h output s.0 s.1 waiting)
+      let waiting = state_waits (step complete lanes elf input h output) machine_is_stream p bytes s e in
+      (waiting, waits_below complete lanes elf input h output s.0 s.1 waiting)
 
 -- ---- a file
 
-module _ (against : Bool) (lanes : Lanes) (elf input front : List ℕ) where
+module _ (complete : Bool) (lanes : Lanes) (elf input front : List ℕ) where
   abbrev file_move : StepOf Phase
-  file_move = step against lanes elf input (header_of front) (drop 173 front)
+  file_move = step complete lanes elf input (header_of front) (drop 173 front)
 
   abbrev start : Phase
-  start = first_phase against lanes elf input (header_of front)
+  start = first_phase complete lanes elf input (header_of front)
 
   -- a front is refused, or the machine begins
-  opened_is : (P : State Phase → Type 0) → ((r : Refusal) → opened against lanes elf input front ≡ Err r → P (Err r)) → P (Ok (start, [])) → P (opened against lanes elf input front)
-  opened_is P refused begun = go (first_broken (header_checks against lanes elf input front)) refl
+  opened_is : (P : State Phase → Type 0) → ((r : Refusal) → opened complete lanes elf input front ≡ Err r → P (Err r)) → P (Ok (start, [])) → P (opened complete lanes elf input front)
+  opened_is P refused begun = go (first_broken (header_checks complete lanes elf input front)) refl
     where
-      go : (o : Option ℕ) → first_broken (header_checks against lanes elf input front) ≡ o → P (refused_by 0 0 o (start, []))
+      go : (o : Option ℕ) → first_broken (header_checks complete lanes elf input front) ≡ o → P (refused_by 0 0 o (start, []))
       go None e = begun
       go (Some rule) e = refused (record { shard = 0; row = 0; rule = rule }) (ap (λ z. refused_by 0 0 z (start, [])) e)
 
-  tells_behind : (bytes : List ℕ) (r : Refusal) → IsFront front → (feed file_move (opened against lanes elf input front) bytes ≡ Err r) ↔ ((outcome file_move (opened against lanes elf input front) bytes ≡ Err r) × (¬ (r.rule ≡ 1)))
+  tells_behind : (bytes : List ℕ) (r : Refusal) → IsFront front → (feed file_move (opened complete lanes elf input front) bytes ≡ Err r) ↔ ((outcome file_move (opened complete lanes elf input front) bytes ≡ Err r) × (¬ (r.rule ≡ 1)))
   tells_behind bytes r size =
       opened_is (λ s. (feed file_move s bytes ≡ Err r) ↔ ((outcome file_move s bytes ≡ Err r) × (¬ (r.rule ≡ 1)))) refused
-      (state_tells_refusals file_move (machine_is_stream against lanes elf input (header_of front) (drop 173 front)) start bytes r)
+      (state_tells_refusals file_move (machine_is_stream complete lanes elf input (header_of front) (drop 173 front)) start bytes r)
     where
-      refused : (t : Refusal) → opened against lanes elf input front ≡ Err t → (feed file_move (Err t) bytes ≡ Err r) ↔ ((outcome file_move (Err t) bytes ≡ Err r) × (¬ (r.rule ≡ 1)))
-      refused t e = (λ f. (f, let same : t ≡ r = cc in λ one. front_has_room against lanes elf input front t size e (ap (λ (z : Refusal). z.rule) same ∙ one)), λ f. f.0)
+      refused : (t : Refusal) → opened complete lanes elf input front ≡ Err t → (feed file_move (Err t) bytes ≡ Err r) ↔ ((outcome file_move (Err t) bytes ≡ Err r) × (¬ (r.rule ≡ 1)))
+      refused t e = (λ f. (f, let same : t ≡ r = cc in λ one. front_has_room complete lanes elf input front t size e (ap (λ (z : Refusal). z.rule) same ∙ one)), λ f. f.0)
 
-  waits_behind : (bytes : List ℕ) (s : Phase × List ℕ) → feed file_move (opened against lanes elf input front) bytes ≡ Ok s → (patient file_move s.0 s.1 ≡ Ok None) × (length s.1 < 256)
+  waits_behind : (bytes : List ℕ) (s : Phase × List ℕ) → feed file_move (opened complete lanes elf input front) bytes ≡ Ok s → (patient file_move s.0 s.1 ≡ Ok None) × (length s.1 < 256)
   waits_behind bytes s =
       opened_is (λ z. feed file_move z bytes ≡ Ok s → (patient file_move s.0 s.1 ≡ Ok None) × (length s.1 < 256)) (λ t _ f. absurd cc)
-      (λ f. states_wait against lanes elf input (header_of front) (drop 173 front) start bytes s f)
+      (λ f. states_wait complete lanes elf input (header_of front) (drop 173 front) start bytes s f)
 
 pub state_tells_file : StateTellsFile
-state_tells_file against lanes elf input front bytes r size =
-    subst (λ s. (state_behind against lanes elf input front bytes ≡ Err r) ↔ ((s ≡ Err r) × (¬ (r.rule ≡ 1)))) (sym (front_is_judged against lanes elf input front bytes size)) (tells_behind against lanes elf input front bytes r size)
+state_tells_file complete lanes elf input front bytes r size =
+    subst (λ s. (state_behind complete lanes elf input front bytes ≡ Err r) ↔ ((s ≡ Err r) × (¬ (r.rule ≡ 1)))) (sym (front_is_judged complete lanes elf input front bytes size)) (tells_behind complete lanes elf input front bytes r size)
 
 pub file_stays_refused : FileStaysRefused
-file_stays_refused against lanes elf input front bytes more r size e =
+file_stays_refused complete lanes elf input front bytes more r size e =
     let h = header_of front in
     let output = drop 173 front in
-    front_is_judged against lanes elf input front (bytes ++ more) size
-    ∙ sym (cuts_dont_matter (step against lanes elf input h output) (machine_is_stream against lanes elf input h output) (opened against lanes elf input front) bytes more)
-    ∙ ap (λ s. outcome (step against lanes elf input h output) s more) e
+    front_is_judged complete lanes elf input front (bytes ++ more) size
+    ∙ sym (cuts_dont_matter (step complete lanes elf input h output) (machine_is_stream complete lanes elf input h output) (opened complete lanes elf input front) bytes more)
+    ∙ ap (λ s. outcome (step complete lanes elf input h output) s more) e
 
 pub file_state_waits : FileStateWaits
-file_state_waits against lanes elf input front bytes s e = waits_behind against lanes elf input front bytes s e
+file_state_waits complete lanes elf input front bytes s e = waits_behind complete lanes elf input front bytes s e

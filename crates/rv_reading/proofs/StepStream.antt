@@ -9,11 +9,11 @@ use Rattle.rv_base.specs.declared.record.ShardHead.{ShardHead}
 use Rattle.rv_base.specs.declared.record.TableEntry.{TableEntry}
 use Rattle.rv_spec.specs.Trace.{Row}
 use Rattle.rv_spec.specs.Digest.{Lanes}
-use Rattle.rv_spec.specs.Lists.{tuple_last}
+use Rattle.rv_spec.specs.Tuples.{tuple_last}
 use Rattle.rv_spec.specs.Record.{shard_rows}
 use Rattle.rv_spec.specs.Cells.{is_cell}
-use Rattle.rv_spec.specs.Checks.{Check, first_broken, refused_by, unless_broken, ◌>>=◌}
-use Rattle.rv_spec.specs.Reading.{head_of, row_of, entry_of, above, full, full_row, next_place, same_place, digest_of}
+use Rattle.rv_rules.specs.Checks.{Check, first_broken, refused_by, unless_broken, ◌>>=◌}
+use Rattle.rv_rules.specs.Reading.{head_of, row_of, entry_of, above, when_complete, row_checks_when_complete, next_place, same_place, digest_of}
 use Rattle.rv_reading.specs.Stream.{Found, IsStream, onwards}
 use Rattle.rv_reading.specs.Machine.{Sums, Phase, Extent, is_behind, on_if, with_tuples, with_row, begin_shard, first_tuple, good_digests, step, step_to}
 use Rattle.rv_reading.specs.Parts.{runs}
@@ -70,7 +70,7 @@ nonzero (x ∷ xs) ys e = go (suc (length (xs ++ ys)) == 0) refl
     go false f = refl
     go true f = let zero_is = eqb-true (suc (length (xs ++ ys))) 0 f in absurd (omega (arith, zero_is))
 
-module _ (against : Bool) (lanes : Lanes) (elf input : List ℕ) (h : Header) (output : List ℕ) where
+module _ (complete : Bool) (lanes : Lanes) (elf input : List ℕ) (h : Header) (output : List ℕ) where
   end_case : (j : ℕ) (a b : Bool) (xs ys : List ℕ)
       → Case (unless_broken h.shards j ((25, a) ∷ (26, b) ∷ (27, length xs == 0) ∷ []) None) (unless_broken h.shards j ((25, a) ∷ (26, b) ∷ (27, length (xs ++ ys) == 0) ∷ []) None) xs ys
   end_case j a b xs ys =
@@ -90,7 +90,7 @@ module _ (against : Bool) (lanes : Lanes) (elf input : List ℕ) (h : Header) (o
       go true true true d e to is = absurd cc
       go true true false d e to is = ap (λ z. end true true z) (to refl) ∙ is
 
-  case : (p : Phase) (xs ys : List ℕ) → Case (step against lanes elf input h output p xs) (step against lanes elf input h output p (xs ++ ys)) xs ys
+  case : (p : Phase) (xs ys : List ℕ) → Case (step complete lanes elf input h output p xs) (step complete lanes elf input h output p (xs ++ ys)) xs ys
   unfolding step
   case (Shards zero i p all) xs ys =
       let cs : List ℕ → List Check = λ bytes. (1, nat_le 4 (length bytes)) ∷ [] in
@@ -98,13 +98,13 @@ module _ (against : Bool) (lanes : Lanes) (elf input : List ℕ) (h : Header) (o
       (fixed (cs xs) _ _ 4 xs (omega arith) (λ f. leb-true 4 (length xs) (all_hold (cs xs) f).0) (λ le. ap (λ n. Entries n 0 None p all) (u32_front xs ys 0 (omega (arith, le)))))
   case (Shards (suc n) i p all) xs ys =
       let rows = shard_rows h.size h.steps i in
-      let good : ShardHead → Bool = λ head. head.index == i && head.rows == rows && full against lanes elf input (same_place head p) in
+      let good : ShardHead → Bool = λ head. head.index == i && head.rows == rows && when_complete complete lanes elf input (same_place head p) in
       let cs : List ℕ → List Check = λ bytes. (1, nat_le 32 (length bytes)) ∷ (9, good (head_of bytes)) ∷ [] in
       case_of i 0 (cs xs) (cs (xs ++ ys)) _ _ 32 32 xs ys
       (Keeps-room 32 32 xs ys ((9, good (head_of xs)) ∷ []) ((9, good (head_of (xs ++ ys))) ∷ []) refl (λ le. Keeps-same 9 (good (head_of xs)) (good (head_of (xs ++ ys))) [] [] (ap good (sym (head_front xs ys le))) tt))
       (fixed (cs xs) _ _ 32 xs (omega arith) (λ f. leb-true 32 (length xs) (all_hold (cs xs) f).0) (λ le. ap (λ head. Rows rows 0 n i (begin_shard head) p all) (head_front xs ys le)))
   case (Rows zero r m i s p all) xs ys =
-      let good : List ℕ → Bool = λ bytes. good_digests against lanes elf input h output bytes s.sums in
+      let good : List ℕ → Bool = λ bytes. good_digests complete lanes elf input h output bytes s.sums in
       let full_size = s.bytes == s.head.bytes in
       let one : List ℕ → List Check = λ bytes. (21, good bytes) ∷ [] in
       let two : List ℕ → List Check = λ bytes. (1, nat_le 256 (length bytes)) ∷ one bytes in
@@ -113,27 +113,27 @@ module _ (against : Bool) (lanes : Lanes) (elf input : List ℕ) (h : Header) (o
       (Keeps-same 20 full_size full_size (two xs) (two (xs ++ ys)) refl (Keeps-room 256 256 xs ys (one xs) (one (xs ++ ys)) refl (λ le. Keeps-same 21 (good xs) (good (xs ++ ys)) [] [] (good_same xs ys s.sums le) tt)))
       (fixed (cs xs) _ _ 256 xs (omega arith) (λ f. leb-true 256 (length xs) (all_hold (cs xs) f).1.0) (λ le. refl))
     where
-      good_same : (xs ys : List ℕ) (s : Sums) → 256 ≤ length xs → good_digests against lanes elf input h output xs s ≡ good_digests against lanes elf input h output (xs ++ ys) s
+      good_same : (xs ys : List ℕ) (s : Sums) → 256 ≤ length xs → good_digests complete lanes elf input h output xs s ≡ good_digests complete lanes elf input h output (xs ++ ys) s
       good_same xs ys s le =
           let second : digest_of (drop 128 (xs ++ ys)) ≡ digest_of (drop 128 xs) =
           ap digest_of (drop-append-le 128 xs ys (omega (arith, le))) ∙ digest_front (drop 128 xs) ys (omega (arith, le, length-drop 128 xs)) in
           let first = digest_front xs ys (omega (arith, le)) in
-          λ t. full against lanes elf input (bytes_eq (sym first t) s.reads && bytes_eq (sym second t) s.writes)
+          λ t. when_complete complete lanes elf input (bytes_eq (sym first t) s.reads && bytes_eq (sym second t) s.writes)
   case (Rows (suc n) r m i s p all) xs ys =
       let k = i * h.size + r in
       let size : List ℕ → ℕ = λ bytes. 9 + 21 * get_or bytes 8 0 in
-      let three : List ℕ → List Check = λ bytes. full_row against lanes elf input h output (row_of bytes) k p in
+      let three : List ℕ → List Check = λ bytes. row_checks_when_complete complete lanes elf input h output (row_of bytes) k p in
       let two : List ℕ → List Check = λ bytes. (1, nat_le (size bytes) (length bytes)) ∷ three bytes in
       let one : List ℕ → List Check = λ bytes. (10, is_in_range 1 8 (get_or bytes 8 0)) ∷ two bytes in
       let cs : List ℕ → List Check = λ bytes. (1, nat_le 9 (length bytes)) ∷ one bytes in
-      let to : Row → Phase = λ row. Rows n (r + 1) m i (with_row against lanes s k row) (next_place against lanes elf input h row p) all in
+      let to : Row → Phase = λ row. Rows n (r + 1) m i (with_row complete lanes s k row) (next_place complete lanes elf input h row p) all in
       let count : 9 ≤ length xs → get_or (xs ++ ys) 8 0 ≡ get_or xs 8 0 = λ le. byte_front xs ys 8 (omega (arith, le)) in
       let sized : 9 ≤ length xs → size (xs ++ ys) ≡ size xs = λ le. ap (λ z. 9 + 21 * z) (count le) in
       case_of i r (cs xs) (cs (xs ++ ys)) (to (row_of xs)) (to (row_of (xs ++ ys))) (size xs) (size (xs ++ ys)) xs ys
       (Keeps-room 9 9 xs ys (one xs) (one (xs ++ ys)) refl (λ le.
       Keeps-same 10 (is_in_range 1 8 (get_or xs 8 0)) (is_in_range 1 8 (get_or (xs ++ ys) 8 0)) (two xs) (two (xs ++ ys)) (ap (λ z. is_in_range 1 8 z) (sym (count le)))
       (Keeps-room (size xs) (size (xs ++ ys)) xs ys (three xs) (three (xs ++ ys)) (sym (sized le)) (λ more.
-      Keeps-equal (three xs) (three (xs ++ ys)) (ap (λ row. full_row against lanes elf input h output row k p) (sym (row_front xs ys le more)))))))
+      Keeps-equal (three xs) (three (xs ++ ys)) (ap (λ row. row_checks_when_complete complete lanes elf input h output row k p) (sym (row_front xs ys le more)))))))
       (λ f.
       let hold = all_hold (cs xs) f in
       let nine = leb-true 9 (length xs) hold.0 in
@@ -148,19 +148,19 @@ module _ (against : Bool) (lanes : Lanes) (elf input : List ℕ) (h : Header) (o
       let cs : List ℕ → List Check = λ bytes. (1, nat_le 16 (length bytes)) ∷ others (entry_of bytes) in
       case_of h.shards j (cs xs) (cs (xs ++ ys)) _ _ 16 16 xs ys
       (Keeps-room 16 16 xs ys (others (entry_of xs)) (others (entry_of (xs ++ ys))) refl (λ le. Keeps-equal (others (entry_of xs)) (others (entry_of (xs ++ ys))) (ap others (sym (entry_front xs ys le)))))
-      (fixed (cs xs) _ _ 16 xs (omega arith) (λ f. leb-true 16 (length xs) (all_hold (cs xs) f).0) (λ le. ap (λ e. Entries n (j + 1) (Some e.cell) p (with_tuples against lanes all (tuple_last e ∷ []) (first_tuple elf h e ∷ []))) (entry_front xs ys le)))
+      (fixed (cs xs) _ _ 16 xs (omega arith) (λ f. leb-true 16 (length xs) (all_hold (cs xs) f).0) (λ le. ap (λ e. Entries n (j + 1) (Some e.cell) p (with_tuples complete lanes all (tuple_last e ∷ []) (first_tuple elf h e ∷ []))) (entry_front xs ys le)))
 
-  pub step-is_stream : IsStream Phase (step against lanes elf input h output)
+  pub step-is_stream : IsStream Phase (step complete lanes elf input h output)
   step-is_stream = record {
     takes = λ p q xs rest e. (case p xs []).takes q rest e;
     goes = λ p q xs rest ys e. (case p xs ys).goes q rest e;
     stays = λ p xs ys r e not. (case p xs ys).stays r e not;
   }
 
-  pub step_to-is_stream : (extent : Extent) → IsStream Phase (step_to against lanes elf input h output extent)
-  step_to-is_stream extent = until-is_stream (step against lanes elf input h output) step-is_stream (is_behind extent)
+  pub step_to-is_stream : (extent : Extent) → IsStream Phase (step_to complete lanes elf input h output extent)
+  step_to-is_stream extent = until-is_stream (step complete lanes elf input h output) step-is_stream (is_behind extent)
 
   -- a reading of any extent is a step and then reading
   pub runs-step : (extent : Extent) (p : Phase) (bytes : List ℕ)
-      → runs against lanes elf input h output extent p bytes ≡ (step_to against lanes elf input h output extent p bytes >>= onwards (runs against lanes elf input h output extent) (p, bytes))
-  runs-step extent p bytes = reads-step (step_to against lanes elf input h output extent) (step_to-is_stream extent) p bytes
+      → runs complete lanes elf input h output extent p bytes ≡ (step_to complete lanes elf input h output extent p bytes >>= onwards (runs complete lanes elf input h output extent) (p, bytes))
+  runs-step extent p bytes = reads-step (step_to complete lanes elf input h output extent) (step_to-is_stream extent) p bytes

@@ -4,13 +4,13 @@ use Rattle.std.specs.Int.{is_in_range}
 use Rattle.std.proofs.lemmas.Bool.{leb-true, eqb-true, cases_lt, and_parts}
 use Rattle.rv_base.specs.declared.record.Header.{Header}
 use Rattle.rv_base.specs.declared.record.Place.{Place}
-use Rattle.rv_spec.specs.RowRules.{row_checks}
+use Rattle.rv_rules.specs.RowRules.{row_checks}
 use Rattle.rv_spec.specs.Trace.{Row}
 use Rattle.rv_spec.specs.Digest.{Lanes}
 use Rattle.rv_spec.specs.Record.{shard_rows}
 use Rattle.rv_spec.specs.Cells.{is_cell}
-use Rattle.rv_spec.specs.Checks.{Check, first_broken, refused_by, unless_broken}
-use Rattle.rv_spec.specs.Reading.{head_of, row_of, entry_of, above, full, full_row, same_place}
+use Rattle.rv_rules.specs.Checks.{Check, first_broken, refused_by, unless_broken}
+use Rattle.rv_rules.specs.Reading.{head_of, row_of, entry_of, above, when_complete, row_checks_when_complete, same_place}
 use Rattle.rv_reading.specs.Stream.{Found, with_patience, patient}
 use Rattle.rv_reading.specs.Machine.{Phase, good_digests, step}
 use Rattle.rv_reading.specs.Machine.Phase.{Shards, Rows, Entries}
@@ -35,42 +35,42 @@ not_waiting i r cs x passed going w = go (first_broken cs) refl w
 moving : (cs : List Check) (x : Phase × List ℕ) → first_broken cs ≡ None → ¬ (Some x ≡ None)
 moving cs x e is = absurd cc
 
-passed_row : (against : Bool) (elf input : List ℕ) (lanes : Lanes) (h : Header) (output : List ℕ) (row : Row) (k : ℕ) (p : Place) → Passed (full_row against lanes elf input h output row k p)
+passed_row : (complete : Bool) (elf input : List ℕ) (lanes : Lanes) (h : Header) (output : List ℕ) (row : Row) (k : ℕ) (p : Place) → Passed (row_checks_when_complete complete lanes elf input h output row k p)
 unfolding row_checks
 passed_row false elf input lanes h output row k p = tt
-passed_row true elf input lanes h output row k p = Passed-others (full_row true lanes elf input h output row k p) refl
+passed_row true elf input lanes h output row k p = Passed-others (row_checks_when_complete true lanes elf input h output row k p) refl
 
-module _ (against : Bool) (lanes : Lanes) (elf input : List ℕ) (h : Header) (output : List ℕ) where
-  long_goes : (p : Phase) (xs : List ℕ) → 256 ≤ length xs → ¬ (Waits (step against lanes elf input h output p xs))
+module _ (complete : Bool) (lanes : Lanes) (elf input : List ℕ) (h : Header) (output : List ℕ) where
+  long_goes : (p : Phase) (xs : List ℕ) → 256 ≤ length xs → ¬ (Waits (step complete lanes elf input h output p xs))
   unfolding step
   long_goes (Shards zero i p all) xs long =
       let cs : List Check = (1, nat_le 4 (length xs)) ∷ [] in
       not_waiting h.shards 0 cs (Some _) (Passed-room 4 xs [] (omega (arith, long)) tt) (moving cs _)
   long_goes (Shards (suc n) i p all) xs long =
-      let good = (head_of xs).index == i && (head_of xs).rows == shard_rows h.size h.steps i && full against lanes elf input (same_place (head_of xs) p) in
+      let good = (head_of xs).index == i && (head_of xs).rows == shard_rows h.size h.steps i && when_complete complete lanes elf input (same_place (head_of xs) p) in
       let nine : List Check = (9, good) ∷ [] in
       let cs : List Check = (1, nat_le 32 (length xs)) ∷ nine in
       not_waiting i 0 cs (Some _) (Passed-room 32 xs nine (omega (arith, long)) (Passed-others nine refl)) (moving cs _)
   long_goes (Rows zero r m i s p all) xs long =
       let full_size = s.bytes == s.head.bytes in
-      let last : List Check = (21, good_digests against lanes elf input h output xs s.sums) ∷ [] in
+      let last : List Check = (21, good_digests complete lanes elf input h output xs s.sums) ∷ [] in
       let two : List Check = (1, nat_le 256 (length xs)) ∷ last in
       let cs : List Check = (20, full_size) ∷ two in
       not_waiting i r cs (Some _) (Passed-other 20 full_size two refl (λ _. Passed-room 256 xs last long (Passed-others last refl))) (moving cs _)
   long_goes (Rows (suc n) r m i s p all) xs long =
       let count = get_or xs 8 0 in
-      let three = full_row against lanes elf input h output (row_of xs) (i * h.size + r) p in
+      let three = row_checks_when_complete complete lanes elf input h output (row_of xs) (i * h.size + r) p in
       let two : List Check = (1, nat_le (9 + 21 * count) (length xs)) ∷ three in
       let one : List Check = (10, is_in_range 1 8 count) ∷ two in
       let cs : List Check = (1, nat_le 9 (length xs)) ∷ one in
       not_waiting i r cs (Some _)
       (Passed-room 9 xs one (omega (arith, long)) (Passed-other 10 (is_in_range 1 8 count) two refl (λ e.
       let most : count ≤ 8 = leb-true count 8 (and_parts (nat_le 1 count) (nat_le count 8) e).1 in
-      Passed-room (9 + 21 * count) xs three (omega (arith, most, long)) (passed_row against elf input lanes h output (row_of xs) (i * h.size + r) p))))
+      Passed-room (9 + 21 * count) xs three (omega (arith, most, long)) (passed_row complete elf input lanes h output (row_of xs) (i * h.size + r) p))))
       (moving cs _)
   long_goes (Entries zero j before p all) xs long =
       let cs : List Check =
-      (25, full against lanes elf input (p.input == h.consumed && p.output == h.length)) ∷ (26, full against lanes elf input (bytes_eq all.reads all.writes)) ∷ (27, length xs == 0) ∷ [] in
+      (25, when_complete complete lanes elf input (p.input == h.consumed && p.output == h.length)) ∷ (26, when_complete complete lanes elf input (bytes_eq all.reads all.writes)) ∷ (27, length xs == 0) ∷ [] in
       not_waiting h.shards j cs None (Passed-others cs refl) (λ e _. let none = eqb-true (length xs) 0 (all_hold cs e).1.1.0 in omega (arith, none, long))
   long_goes (Entries (suc n) j before p all) xs long =
       let e = entry_of xs in
@@ -79,5 +79,5 @@ module _ (against : Bool) (lanes : Lanes) (elf input : List ℕ) (h : Header) (o
       not_waiting h.shards j cs (Some _) (Passed-room 16 xs rules (omega (arith, long)) (Passed-others rules refl)) (moving cs _)
 
   -- A phase waits with fewer than 256 bytes: a buffer of 256 holds what a state holds.
-  pub waits_below : (p : Phase) (xs : List ℕ) → patient (step against lanes elf input h output) p xs ≡ Ok None → length xs < 256
+  pub waits_below : (p : Phase) (xs : List ℕ) → patient (step complete lanes elf input h output) p xs ≡ Ok None → length xs < 256
   waits_below p xs w = elim (cases_lt (length xs) 256) [ inl lt ↦ lt | inr le ↦ absurd (long_goes p xs le w) ]

@@ -3,7 +3,7 @@ use Rattle.std.proofs.Common.{◌≡◌, ℕ, zero, suc, ◌<◌, Bool, true, fa
 use Rattle.std.proofs.lemmas.Bool.{eqb-true, eqb-false}
 use Rattle.std.proofs.lemmas.List.{append-nil}
 use Rattle.rv_base.specs.declared.record.Refusal.{Refusal}
-use Rattle.rv_spec.specs.Checks.{◌>>=◌}
+use Rattle.rv_rules.specs.Checks.{◌>>=◌}
 use Rattle.rv_reading.specs.Stream.{Found, StepOf, IsStream, State, onwards, reads_in, reads, with_patience, patient, until, settle, feed, outcome}
 
 -- ---- patience

@@ -9,9 +9,9 @@ use Rattle.rv_base.specs.declared.record.Tuple.{Tuple}
 use Rattle.rv_spec.specs.Words.{u32_at}
 use Rattle.rv_spec.specs.Cells.{is_cell}
 use Rattle.rv_spec.specs.Digest.{Lanes, digest}
-use Rattle.rv_spec.specs.Lists.{tuple_last}
-use Rattle.rv_spec.specs.Checks.{Check, unless_broken, ◌>>=◌}
-use Rattle.rv_spec.specs.Reading.{entry_of, above, full, read_entries}
+use Rattle.rv_spec.specs.Tuples.{tuple_last}
+use Rattle.rv_rules.specs.Checks.{Check, unless_broken, ◌>>=◌}
+use Rattle.rv_rules.specs.Reading.{entry_of, above, when_complete, read_entries}
 use Rattle.rv_reading.specs.Stream.{State, onwards}
 use Rattle.rv_reading.specs.Machine.{Sums, Phase, Extent, is_shards_alone, no_sums, on_if, with_tuples, tuple_sums, first_tuple, last_cell, step}
 use Rattle.rv_reading.specs.Machine.Phase.{Shards, Entries}
@@ -21,20 +21,20 @@ use Rattle.rv_reading.proofs.StepStream.{runs-step}
 use Rattle.rv_reading.proofs.Binding.{bind_assoc, bind_same, checks_bind, checks_value}
 use Rattle.rv_reading.proofs.RunningSums.{with_tuples-sums, no_sums-sums, equal_alike}
 
-module _ (against : Bool) (lanes : Lanes) (elf input : List ℕ) (h : Header) (output : List ℕ) (extent : Extent) where
+module _ (complete : Bool) (lanes : Lanes) (elf input : List ℕ) (h : Header) (output : List ℕ) (extent : Extent) where
   abbrev run : Phase → List ℕ → State Phase
-  run p bytes = runs against lanes elf input h output extent p bytes
+  run p bytes = runs complete lanes elf input h output extent p bytes
 
   abbrev sums : List Tuple → List Tuple → Sums
-  sums rs ws = tuple_sums against lanes rs ws
+  sums rs ws = tuple_sums complete lanes rs ws
 
   entry_step : (n j : ℕ) (before : Option ℕ) (p : Place) (all : Sums) (bytes : List ℕ)
       → run (Entries (suc n) j before p all) bytes
       ≡ (on_if h.shards j ((1, nat_le 16 (length bytes)) ∷ (22, above before (entry_of bytes).cell) ∷ (23, is_cell h.version (entry_of bytes).cell) ∷ (24, nat_lt 0 (entry_of bytes).time) ∷ [])
-      (Entries n (j + 1) (Some (entry_of bytes).cell) p (with_tuples against lanes all (tuple_last (entry_of bytes) ∷ []) (first_tuple elf h (entry_of bytes) ∷ []))) (drop 16 bytes)
+      (Entries n (j + 1) (Some (entry_of bytes).cell) p (with_tuples complete lanes all (tuple_last (entry_of bytes) ∷ []) (first_tuple elf h (entry_of bytes) ∷ []))) (drop 16 bytes)
       >>= onwards run (Entries (suc n) j before p all, bytes))
   unfolding step
-  entry_step n j before p all bytes = runs-step against lanes elf input h output extent (Entries (suc n) j before p all) bytes
+  entry_step n j before p all bytes = runs-step complete lanes elf input h output extent (Entries (suc n) j before p all) bytes
 
   abbrev pub behind_entries : ℕ → Option ℕ → Place → List Tuple → List Tuple → List TableEntry × List ℕ → State Phase
   behind_entries total before p rs ws x = run (Entries zero total (last_cell before x.0) p (sums (rs ++ map tuple_last x.0) (ws ++ map (first_tuple elf h) x.0))) x.1
@@ -55,9 +55,9 @@ module _ (against : Bool) (lanes : Lanes) (elf input : List ℕ) (h : Header) (o
       let with_last = rs ++ tuple_last e ∷ [] in
       let with_first = ws ++ first_tuple elf h e ∷ [] in
       let to : Sums → Phase = λ z. Entries n (j + 1) (Some e.cell) p z in
-      let added = with_tuples against lanes (sums rs ws) (tuple_last e ∷ []) (first_tuple elf h e ∷ []) in
+      let added = with_tuples complete lanes (sums rs ws) (tuple_last e ∷ []) (first_tuple elf h e ∷ []) in
       let inner : run (to added) rest ≡ (whole (e, rest) >>= next) =
-      ap (λ z. run (to z) rest) (with_tuples-sums against lanes rs ws (tuple_last e ∷ []) (first_tuple elf h e ∷ []))
+      ap (λ z. run (to z) rest) (with_tuples-sums complete lanes rs ws (tuple_last e ∷ []) (first_tuple elf h e ∷ []))
       ∙ entries_read n (j + 1) total (Some e.cell) p with_last with_first rest (omega (arith, sum))
       ∙ bind_same (others_from (e, rest)) (behind_entries total (Some e.cell) p with_last with_first) (λ y. next (e ∷ y.0, y.1))
       (λ y _. λ t. run (Entries zero total (last_cell (Some e.cell) y.0) p (sums (append_assoc rs (tuple_last e ∷ []) (map tuple_last y.0) t) (append_assoc ws (first_tuple elf h e ∷ []) (map (first_tuple elf h) y.0) t))) y.1)
@@ -66,62 +66,62 @@ module _ (against : Bool) (lanes : Lanes) (elf input : List ℕ) (h : Header) (o
       ∙ checks_bind h.shards j cs (Some (to added, rest)) (e, rest) (onwards run (Entries (suc n) j before p (sums rs ws), bytes)) (λ x. whole x >>= next) inner
       ∙ sym (bind_assoc (unless_broken h.shards j cs (e, rest)) whole next)
 
-module _ (against : Bool) (lanes : Lanes) (elf input : List ℕ) (h : Header) (output : List ℕ) where
+module _ (complete : Bool) (lanes : Lanes) (elf input : List ℕ) (h : Header) (output : List ℕ) where
   -- The law of entries.
-  pub entries_are_read : EntriesAreRead against lanes elf input h output
-  entries_are_read extent n j before p rs ws bytes = entries_read against lanes elf input h output extent n j (j + n) before p rs ws bytes refl
+  pub entries_are_read : EntriesAreRead complete lanes elf input h output
+  entries_are_read extent n j before p rs ws bytes = entries_read complete lanes elf input h output extent n j (j + n) before p rs ws bytes refl
 
   pub count_step : (extent : Extent) → is_shards_alone extent ≡ false → (i : ℕ) (p : Place) (all : Sums) (bytes : List ℕ)
-      → runs against lanes elf input h output extent (Shards zero i p all) bytes
+      → runs complete lanes elf input h output extent (Shards zero i p all) bytes
       ≡ (on_if h.shards 0 ((1, nat_le 4 (length bytes)) ∷ []) (Entries (u32_at bytes 0) 0 None p all) (drop 4 bytes)
-      >>= onwards (runs against lanes elf input h output extent) (Shards zero i p all, bytes))
+      >>= onwards (runs complete lanes elf input h output extent) (Shards zero i p all, bytes))
   unfolding step
-  count_step WholeFile e i p all bytes = runs-step against lanes elf input h output WholeFile (Shards zero i p all) bytes
+  count_step WholeFile e i p all bytes = runs-step complete lanes elf input h output WholeFile (Shards zero i p all) bytes
   count_step ShardsAlone e i p all bytes = absurd cc
-  count_step TableAlone e i p all bytes = runs-step against lanes elf input h output TableAlone (Shards zero i p all) bytes
+  count_step TableAlone e i p all bytes = runs-step complete lanes elf input h output TableAlone (Shards zero i p all) bytes
 
   -- The law of the table alone.
-  pub table_alone_is_read : TableAloneIsRead against lanes elf input h output
+  pub table_alone_is_read : TableAloneIsRead complete lanes elf input h output
   table_alone_is_read i p bytes =
       let count = u32_at bytes 0 in
       let rest = drop 4 bytes in
-      let run : Phase → List ℕ → State Phase = runs against lanes elf input h output TableAlone in
+      let run : Phase → List ℕ → State Phase = runs complete lanes elf input h output TableAlone in
       let cs : List Check = (1, nat_le 4 (length bytes)) ∷ [] in
       let from : List ℕ → Result (List TableEntry × List ℕ) Refusal = λ z. read_entries count h 0 None z in
       let end : List TableEntry × List ℕ → State Phase = λ x.
-      Ok (Entries zero count (last_cell None x.0) p (tuple_sums against lanes (map tuple_last x.0) (map (first_tuple elf h) x.0)), x.1) in
+      Ok (Entries zero count (last_cell None x.0) p (tuple_sums complete lanes (map tuple_last x.0) (map (first_tuple elf h) x.0)), x.1) in
       let inner : run (Entries count 0 None p no_sums) rest ≡ (from rest >>= end) =
-      ap (λ z. run (Entries count 0 None p z) rest) (no_sums-sums against lanes)
-      ∙ entries_read against lanes elf input h output TableAlone count 0 count None p [] [] rest (omega arith)
-      ∙ bind_same (from rest) (behind_entries against lanes elf input h output TableAlone count None p [] []) end
-      (λ x _. runs-step against lanes elf input h output TableAlone (Entries zero count (last_cell None x.0) p (tuple_sums against lanes (map tuple_last x.0) (map (first_tuple elf h) x.0))) x.1) in
+      ap (λ z. run (Entries count 0 None p z) rest) (no_sums-sums complete lanes)
+      ∙ entries_read complete lanes elf input h output TableAlone count 0 count None p [] [] rest (omega arith)
+      ∙ bind_same (from rest) (behind_entries complete lanes elf input h output TableAlone count None p [] []) end
+      (λ x _. runs-step complete lanes elf input h output TableAlone (Entries zero count (last_cell None x.0) p (tuple_sums complete lanes (map tuple_last x.0) (map (first_tuple elf h) x.0))) x.1) in
       count_step TableAlone refl i p no_sums bytes
       ∙ checks_bind h.shards 0 cs (Some (Entries count 0 None p no_sums, rest)) rest (onwards run (Shards zero i p no_sums, bytes)) (λ z. from z >>= end) inner
 
 -- ---- the end of a file
 
-module _ (against : Bool) (lanes : Lanes) (elf input : List ℕ) (h : Header) (output : List ℕ) where
+module _ (complete : Bool) (lanes : Lanes) (elf input : List ℕ) (h : Header) (output : List ℕ) where
   abbrev run_file : Phase → List ℕ → State Phase
-  run_file p bytes = runs against lanes elf input h output WholeFile p bytes
+  run_file p bytes = runs complete lanes elf input h output WholeFile p bytes
 
   end_step : (j : ℕ) (before : Option ℕ) (p : Place) (all : Sums) (bytes : List ℕ)
       → run_file (Entries zero j before p all) bytes
       ≡ (unless_broken h.shards j
-      ((25, full against lanes elf input (p.input == h.consumed && p.output == h.length)) ∷ (26, full against lanes elf input (bytes_eq all.reads all.writes)) ∷ (27, length bytes == 0) ∷ [])
+      ((25, when_complete complete lanes elf input (p.input == h.consumed && p.output == h.length)) ∷ (26, when_complete complete lanes elf input (bytes_eq all.reads all.writes)) ∷ (27, length bytes == 0) ∷ [])
       None >>= onwards run_file (Entries zero j before p all, bytes))
   unfolding step
-  end_step j before p all bytes = runs-step against lanes elf input h output WholeFile (Entries zero j before p all) bytes
+  end_step j before p all bytes = runs-step complete lanes elf input h output WholeFile (Entries zero j before p all) bytes
 
   -- at the end of a file, the digests of all tuples are compared
   pub end_read : (j : ℕ) (before : Option ℕ) (p : Place) (rs ws : List Tuple) (bytes : List ℕ)
-      → run_file (Entries zero j before p (tuple_sums against lanes rs ws)) bytes
+      → run_file (Entries zero j before p (tuple_sums complete lanes rs ws)) bytes
       ≡ unless_broken h.shards j
-      ((25, full against lanes elf input (p.input == h.consumed && p.output == h.length)) ∷ (26, full against lanes elf input (bytes_eq (digest lanes rs) (digest lanes ws))) ∷ (27, length bytes == 0) ∷ [])
-      (Entries zero j before p (tuple_sums against lanes rs ws), bytes)
+      ((25, when_complete complete lanes elf input (p.input == h.consumed && p.output == h.length)) ∷ (26, when_complete complete lanes elf input (bytes_eq (digest lanes rs) (digest lanes ws))) ∷ (27, length bytes == 0) ∷ [])
+      (Entries zero j before p (tuple_sums complete lanes rs ws), bytes)
   end_read j before p rs ws bytes =
-      let with : Bool → List Check = λ z. (25, full against lanes elf input (p.input == h.consumed && p.output == h.length)) ∷ (26, z) ∷ (27, length bytes == 0) ∷ [] in
-      let here : Phase × List ℕ = (Entries zero j before p (tuple_sums against lanes rs ws), bytes) in
+      let with : Bool → List Check = λ z. (25, when_complete complete lanes elf input (p.input == h.consumed && p.output == h.length)) ∷ (26, z) ∷ (27, length bytes == 0) ∷ [] in
+      let here : Phase × List ℕ = (Entries zero j before p (tuple_sums complete lanes rs ws), bytes) in
       let none : Option (Phase × List ℕ) = None in
-      end_step j before p (tuple_sums against lanes rs ws) bytes
-      ∙ ap (λ z. unless_broken h.shards j (with z) none >>= onwards run_file here) (equal_alike against (digest lanes rs) (digest lanes ws))
-      ∙ checks_value h.shards j (with (full against lanes elf input (bytes_eq (digest lanes rs) (digest lanes ws)))) none here (onwards run_file here) refl
+      end_step j before p (tuple_sums complete lanes rs ws) bytes
+      ∙ ap (λ z. unless_broken h.shards j (with z) none >>= onwards run_file here) (equal_alike complete (digest lanes rs) (digest lanes ws))
+      ∙ checks_value h.shards j (with (when_complete complete lanes elf input (bytes_eq (digest lanes rs) (digest lanes ws)))) none here (onwards run_file here) refl

@@ -12,11 +12,12 @@ use Rattle.rv_spec.specs.Words.{u32_at}
 use Rattle.rv_spec.specs.Elf.{image}
 use Rattle.rv_spec.specs.Cells.{is_cell, initial_value}
 use Rattle.rv_spec.specs.Trace.{Row}
-use Rattle.rv_spec.specs.Digest.{Lanes, digest, add_lanes}
-use Rattle.rv_spec.specs.Lists.{Event, event, events, tuple_read, tuple_written, tuple_last, tuple_first}
+use Rattle.rv_spec.specs.Digest.{Lanes, digest}
+use Rattle.rv_rules.specs.Sums.{add_lanes}
+use Rattle.rv_spec.specs.Tuples.{Event, event, events, tuple_read, tuple_written, tuple_last, tuple_first}
 use Rattle.rv_spec.specs.Record.{Shard, shard_rows, row_length}
-use Rattle.rv_spec.specs.Checks.{Check, unless_broken, ◌>>=◌}
-use Rattle.rv_spec.specs.Reading.{head_of, row_of, digest_of, entry_of, same_place, row_form, above, full, full_row, next_place, header_of, header_checks, first_place}
+use Rattle.rv_rules.specs.Checks.{Check, unless_broken, ◌>>=◌}
+use Rattle.rv_rules.specs.Reading.{head_of, row_of, digest_of, entry_of, same_place, row_form, above, when_complete, row_checks_when_complete, next_place, header_of, header_checks, first_place}
 use Rattle.rv_reading.specs.Stream.{Found, State, reads, until}
 
 -- the digests of what was read and of what was written
@@ -67,12 +68,12 @@ abbrev pub on_if : ℕ → ℕ → List Check → Phase → List ℕ → Found P
 on_if shard row cs q rest = unless_broken shard row cs (Some (q, rest))
 
 -- digests are summed only where they are judged
-module _ (against : Bool) (lanes : Lanes) where
+module _ (complete : Bool) (lanes : Lanes) where
   -- the digests of these tuples
   abbrev pub tuple_sums : List Tuple → List Tuple → Sums
   tuple_sums read written = record {
-    reads = if against then digest lanes read else replicate 16 0;
-    writes = if against then digest lanes written else replicate 16 0;
+    reads = if complete then digest lanes read else replicate 16 0;
+    writes = if complete then digest lanes written else replicate 16 0;
   }
 
   abbrev pub event_sums : List Event → Sums
@@ -81,8 +82,8 @@ module _ (against : Bool) (lanes : Lanes) where
   -- with these tuples more
   abbrev pub with_tuples : Sums → List Tuple → List Tuple → Sums
   with_tuples s read written = record {
-    reads = if against then add_lanes s.reads (digest lanes read) else s.reads;
-    writes = if against then add_lanes s.writes (digest lanes written) else s.writes;
+    reads = if complete then add_lanes s.reads (digest lanes read) else s.reads;
+    writes = if complete then add_lanes s.writes (digest lanes written) else s.writes;
   }
 
   abbrev pub with_events : Sums → List Event → Sums
@@ -90,8 +91,8 @@ module _ (against : Bool) (lanes : Lanes) where
 
   abbrev pub with_sums : Sums → Sums → Sums
   with_sums s t = record {
-    reads = if against then add_lanes s.reads t.reads else s.reads;
-    writes = if against then add_lanes s.writes t.writes else s.writes;
+    reads = if complete then add_lanes s.reads t.reads else s.reads;
+    writes = if complete then add_lanes s.writes t.writes else s.writes;
   }
 
   abbrev pub with_row : Inside → ℕ → Row → Inside
@@ -114,9 +115,9 @@ abbrev pub last_cell : Option ℕ → List TableEntry → Option ℕ
 last_cell before [] = before
 last_cell before (e ∷ es) = last_cell (Some e.cell) es
 
-module _ (against : Bool) (lanes : Lanes) (elf input : List ℕ) (h : Header) (output : List ℕ) where
+module _ (complete : Bool) (lanes : Lanes) (elf input : List ℕ) (h : Header) (output : List ℕ) where
   abbrev pub good_digests : List ℕ → Sums → Bool
-  good_digests bytes s = full against lanes elf input (bytes_eq (digest_of bytes) s.reads && bytes_eq (digest_of (drop 128 bytes)) s.writes)
+  good_digests bytes s = when_complete complete lanes elf input (bytes_eq (digest_of bytes) s.reads && bytes_eq (digest_of (drop 128 bytes)) s.writes)
 
   -- the next phase, or the first broken check
   unfoldable pub step : Phase → List ℕ → Found Phase
@@ -124,19 +125,19 @@ module _ (against : Bool) (lanes : Lanes) (elf input : List ℕ) (h : Header) (o
   step (Shards (suc n) i p all) bytes =
       let head = head_of bytes in
       let rows = shard_rows h.size h.steps i in
-      on_if i 0 ((1, nat_le 32 (length bytes)) ∷ (9, head.index == i && head.rows == rows && full against lanes elf input (same_place head p)) ∷ []) (Rows rows 0 n i (begin_shard head) p all) (drop 32 bytes)
+      on_if i 0 ((1, nat_le 32 (length bytes)) ∷ (9, head.index == i && head.rows == rows && when_complete complete lanes elf input (same_place head p)) ∷ []) (Rows rows 0 n i (begin_shard head) p all) (drop 32 bytes)
   step (Rows zero r m i s p all) bytes =
-      on_if i r ((20, s.bytes == s.head.bytes) ∷ (1, nat_le 256 (length bytes)) ∷ (21, good_digests bytes s.sums) ∷ []) (Shards m (i + 1) p (with_sums against lanes all s.sums)) (drop 256 bytes)
+      on_if i r ((20, s.bytes == s.head.bytes) ∷ (1, nat_le 256 (length bytes)) ∷ (21, good_digests bytes s.sums) ∷ []) (Shards m (i + 1) p (with_sums complete lanes all s.sums)) (drop 256 bytes)
   step (Rows (suc n) r m i s p all) bytes =
       let row = row_of bytes in
       let k = i * h.size + r in
-      on_if i r (row_form bytes ++ full_row against lanes elf input h output row k p)
-      (Rows n (r + 1) m i (with_row against lanes s k row) (next_place against lanes elf input h row p) all)
+      on_if i r (row_form bytes ++ row_checks_when_complete complete lanes elf input h output row k p)
+      (Rows n (r + 1) m i (with_row complete lanes s k row) (next_place complete lanes elf input h row p) all)
       (drop (9 + 21 * slice_index bytes 8) bytes)
   step (Entries zero j before p all) bytes =
       unless_broken h.shards j
-      ((25, full against lanes elf input (p.input == h.consumed && p.output == h.length))
-      ∷ (26, full against lanes elf input (bytes_eq all.reads all.writes))
+      ((25, when_complete complete lanes elf input (p.input == h.consumed && p.output == h.length))
+      ∷ (26, when_complete complete lanes elf input (bytes_eq all.reads all.writes))
       ∷ (27, length bytes == 0)
       ∷ [])
       None
@@ -144,34 +145,34 @@ module _ (against : Bool) (lanes : Lanes) (elf input : List ℕ) (h : Header) (o
       let e = entry_of bytes in
       on_if h.shards j
       ((1, nat_le 16 (length bytes)) ∷ (22, above before e.cell) ∷ (23, is_cell h.version e.cell) ∷ (24, nat_lt 0 e.time) ∷ [])
-      (Entries n (j + 1) (Some e.cell) p (with_tuples against lanes all (tuple_last e ∷ []) (first_tuple elf h e ∷ [])))
+      (Entries n (j + 1) (Some e.cell) p (with_tuples complete lanes all (tuple_last e ∷ []) (first_tuple elf h e ∷ [])))
       (drop 16 bytes)
 
   -- the step of a reading that goes so far
   abbrev pub step_to : Extent → Phase → List ℕ → Found Phase
   step_to extent = until (is_behind extent) step
 
--- ---- a file, for a program and an input; where `against` is false, its form alone
+-- ---- a file, for a program and an input; where `complete` is false, its form alone
 
-module _ (against : Bool) (lanes : Lanes) (elf input : List ℕ) where
+module _ (complete : Bool) (lanes : Lanes) (elf input : List ℕ) where
   -- before the first shard, where this header and output come in front
   abbrev pub first_phase : Header → Phase
-  first_phase h = Shards h.shards 0 (first_place against lanes elf input) no_sums
+  first_phase h = Shards h.shards 0 (first_place complete lanes elf input h) no_sums
 
   -- The first bytes of a file, header and output, are judged as they are, and then the machine reads on.
   abbrev pub opened : List ℕ → State Phase
-  opened front = unless_broken 0 0 (header_checks against lanes elf input front) (first_phase (header_of front), [])
+  opened front = unless_broken 0 0 (header_checks complete lanes elf input front) (first_phase (header_of front), [])
 
   -- what comes of a whole file
   abbrev pub judged : List ℕ → State Phase
   judged file = do
     let h = header_of file
-    behind ← unless_broken 0 0 (header_checks against lanes elf input file) (drop 173 file)
-    reads (step against lanes elf input h (take h.length behind)) (first_phase h) (drop h.length behind)
+    behind ← unless_broken 0 0 (header_checks complete lanes elf input file) (drop 173 file)
+    reads (step complete lanes elf input h (take h.length behind)) (first_phase h) (drop h.length behind)
 
 -- a law of the machine, for form alone and for a program and an input, under every lanes, header and output
 abbrev pub InEachReading : (Bool → Lanes → List ℕ → List ℕ → Header → List ℕ → Type 0) → Type 0
-InEachReading law = (against : Bool) (lanes : Lanes) (elf input : List ℕ) (h : Header) (output : List ℕ) → law against lanes elf input h output
+InEachReading law = (complete : Bool) (lanes : Lanes) (elf input : List ℕ) (h : Header) (output : List ℕ) → law complete lanes elf input h output
 
 -- whether something was refused, without what was read
 abbrev pub finding : {A : Type 0} → Result A Refusal → Result (Unit {0}) Refusal

@@ -1,7 +1,7 @@
 -- A reader that goes on from phase to phase, in one go or in any pieces.
 use Rattle.std.specs.Prelude.{◌≡◌, ℕ, zero, suc, ◌<◌, Bool, List, ◌++◌, length, Option, Some, None, Result, Ok, Err, ◌==◌, if◌then◌else◌}
 use Rattle.rv_base.specs.declared.record.Refusal.{Refusal}
-use Rattle.rv_spec.specs.Checks.{◌>>=◌}
+use Rattle.rv_rules.specs.Checks.{◌>>=◌}
 
 -- What a step finds: a refusal, which is by rule 1 where more bytes may be missing; or the next phase and the bytes left; or None, where the reading may end.
 abbrev pub Found : Type 0 → Type 0

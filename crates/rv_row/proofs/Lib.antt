@@ -1,3 +1,4 @@
+pub mod Lemmas
 pub mod Filling
 pub mod Numbers
 pub mod RowLaws

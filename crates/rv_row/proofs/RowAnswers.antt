@@ -3,9 +3,9 @@ use Rattle.std.proofs.Common.{◌≡◌, ℕ, ◌+◌, ◌*◌, List, ◌++◌, 
 use Rattle.std.proofs.lemmas.List.{append_cancel_left}
 use Rattle.rv_spec.specs.Trace.{Row as Traced}
 use Rattle.rv_spec.specs.Record.{row_bytes, row_length}
-use Rattle.rv_spec.specs.Form.{RowFits}
-use Rattle.rv_spec.specs.Reading.{row_of, row_form}
-use Rattle.rv_spec.specs.Checks.{first_broken}
+use Rattle.rv_spec.specs.Grammar.{RowFits}
+use Rattle.rv_rules.specs.Reading.{row_of, row_form}
+use Rattle.rv_rules.specs.Checks.{first_broken}
 use Rattle.rv_row.specs.declared.rows.RowRead.{RowRead}
 use Rattle.rv_row.specs.declared.rows.RowRead.TheVariants as read
 use Rattle.rv_row.specs.RowReading.{ReadsRow, SpellsRow, IsRow, OneRow}

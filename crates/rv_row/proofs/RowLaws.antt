@@ -8,9 +8,9 @@ use Rattle.std.proofs.lemmas.List.FromFn.{length-map-range_with_len}
 use Rattle.rv_base.specs.declared.record.Access.{Access}
 use Rattle.rv_spec.specs.Trace.{Row}
 use Rattle.rv_spec.specs.Record.{access_bytes, row_bytes}
-use Rattle.rv_spec.specs.Form.{AccessFits, RowFits}
-use Rattle.rv_spec.specs.Reading.{access_of, row_of, row_form}
-use Rattle.rv_spec.specs.Checks.{Check, first_broken}
+use Rattle.rv_spec.specs.Grammar.{AccessFits, RowFits}
+use Rattle.rv_rules.specs.Reading.{access_of, row_of, row_form}
+use Rattle.rv_rules.specs.Checks.{Check, first_broken}
 use Rattle.rv_row.proofs.Numbers.{IsBytes, IsBytes-drop, wide32, wide64, field32, field64, below32, below64, byte_at_front}
 
 -- ---- one access

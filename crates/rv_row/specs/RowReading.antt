@@ -1,10 +1,11 @@
 -- A row as the definitions know it, and what reading one answers.
-use Rattle.std.specs.Prelude.{◌≡◌, ℕ, ◌+◌, ◌*◌, ◌≤◌, List, ◌++◌, length, drop, Some, None, slice_index}
+use Rattle.std.specs.Prelude.{◌≡◌, ℕ, ◌≤◌, List, ◌++◌, length, drop, Some, None}
+use Rattle.rv_base.specs.declared.rules.TheConstants.{SHORT, ROW_SHAPE}
 use Rattle.rv_spec.specs.Trace.{Row as Traced}
 use Rattle.rv_spec.specs.Record.{row_bytes}
-use Rattle.rv_spec.specs.Form.{RowFits}
-use Rattle.rv_spec.specs.Reading.{row_of, row_form}
-use Rattle.rv_spec.specs.Checks.{first_broken}
+use Rattle.rv_spec.specs.Grammar.{RowFits}
+use Rattle.rv_rules.specs.Reading.{row_of, row_form, row_size}
+use Rattle.rv_rules.specs.Checks.{first_broken}
 use Rattle.rv_row.specs.declared.rows.Row.{Row}
 use Rattle.rv_row.specs.declared.rows.RowRead.{RowRead}
 use Rattle.rv_row.specs.declared.rows.RowRead.TheVariants as read
@@ -14,9 +15,9 @@ row_view r = record { pc = r.pc; next = r.next; accesses = r.accesses.items }
 
 -- What reading a row at the front of bytes answers: the row and its length where its form is good, else which check of form is the first to be broken.
 abbrev pub ReadsRow : List ℕ → RowRead → Type 0
-ReadsRow bytes (read.Row r n) = (first_broken (row_form bytes) ≡ None) × (row_view r ≡ row_of bytes) × (n ≡ 9 + 21 * slice_index bytes 8) × (n ≤ length bytes)
-ReadsRow bytes read.Short = first_broken (row_form bytes) ≡ Some 1
-ReadsRow bytes read.Shape = first_broken (row_form bytes) ≡ Some 10
+ReadsRow bytes (read.Row r n) = (first_broken (row_form bytes) ≡ None) × (row_view r ≡ row_of bytes) × (n ≡ row_size bytes) × (n ≤ length bytes)
+ReadsRow bytes read.Short = first_broken (row_form bytes) ≡ Some SHORT
+ReadsRow bytes read.Shape = first_broken (row_form bytes) ≡ Some ROW_SHAPE
 
 -- A row that is answered is spelled by the bytes.
 abbrev pub SpellsRow : List ℕ → RowRead → Type 0

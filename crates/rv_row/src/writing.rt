@@ -6,30 +6,35 @@ ghost use Rattle.rv_spec.specs.Record.{access_bytes, row_bytes};
 ghost use Rattle.rv_row.specs.RowReading.{row_view};
 
 use crate::rows::Row;
+use rv_base::cells::SLOTS;
+use rv_base::layout::{
+    ACCESS_BYTES, ACCESS_CELL_AT, ACCESS_NEW_AT, ACCESS_OLD_AT, ACCESS_PREV_AT, ROW_BYTES,
+    ROW_COUNT_AT, ROW_NEXT_AT, ROW_PC_AT,
+};
 use rv_base::{Access, NoMemory, set32, set64};
 
 /// The most bytes that a row has.
-const LONGEST: usize = 177;
+const LONGEST: usize = ROW_BYTES + ACCESS_BYTES * SLOTS;
 
 /// Writes the 21 bytes of an access at a place.
 fn write_access(bytes: &mut [u8], at: usize, access: &Access)
-    requires { at + 21 ≤ length bytes.old }
-    ensures { take (at + 21) bytes.new ≡ take at bytes.old ++ access_bytes access.now }
+    requires { at + ACCESS_BYTES ≤ length bytes.old }
+    ensures { take (at + ACCESS_BYTES) bytes.new ≡ take at bytes.old ++ access_bytes access.now }
 {
     bytes[at] = access.slot;
-    set32(bytes, at + 1, access.cell);
-    set32(bytes, at + 5, access.old);
-    set64(bytes, at + 9, access.prev);
-    set32(bytes, at + 17, access.new);
+    set32(bytes, at + ACCESS_CELL_AT, access.cell);
+    set32(bytes, at + ACCESS_OLD_AT, access.old);
+    set64(bytes, at + ACCESS_PREV_AT, access.prev);
+    set32(bytes, at + ACCESS_NEW_AT, access.new);
 }
 
-/// Writes accesses one after another from byte 9 on.
+/// Writes accesses one after another, behind a row's front.
 fn write_accesses(bytes: &mut [u8], accesses: &[Access])
-    requires { 9 + 21 * length accesses.now ≤ length bytes.old }
-    ensures { take (9 + 21 * length accesses.now) bytes.new ≡ take 9 bytes.old ++ flat_map access_bytes accesses.now }
+    requires { ROW_BYTES + ACCESS_BYTES * length accesses.now ≤ length bytes.old }
+    ensures { take (ROW_BYTES + ACCESS_BYTES * length accesses.now) bytes.new ≡ take ROW_BYTES bytes.old ++ flat_map access_bytes accesses.now }
 {
     for (j, access) in accesses.iter().enumerate() {
-        write_access(bytes, 9 + 21 * j, access);
+        write_access(bytes, ROW_BYTES + ACCESS_BYTES * j, access);
     }
 }
 
@@ -40,11 +45,11 @@ fn fill_row(bytes: &mut [u8], row: &Row) -> usize
     ensures filled { take result bytes.new ≡ row_bytes (row_view row.now) }
 {
     let accesses = row.accesses.as_slice();
-    set32(bytes, 0, row.pc);
-    set32(bytes, 4, row.next);
-    bytes[8] = accesses.len() as u8;
+    set32(bytes, ROW_PC_AT, row.pc);
+    set32(bytes, ROW_NEXT_AT, row.next);
+    bytes[ROW_COUNT_AT] = accesses.len() as u8;
     write_accesses(bytes, accesses);
-    9 + 21 * accesses.len()
+    ROW_BYTES + ACCESS_BYTES * accesses.len()
 }
 
 /// Appends the bytes of a row: pc (4 bytes), next (4), the number of accesses (1), and 21 bytes for each access. After a refusal `to` is as it was.
@@ -55,5 +60,6 @@ pub fn write_row(row: &Row, to: &mut Vec<u8>) -> Result<(), NoMemory>
 {
     let mut bytes = [0; LONGEST];
     let length = fill_row(&mut bytes, row);
-    to.extend_from_slice(&bytes[..length]).map_err(|_| NoMemory)
+    to.extend_from_slice(&bytes[..length])?;
+    Ok(())
 }

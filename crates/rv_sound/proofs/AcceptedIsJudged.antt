@@ -14,20 +14,20 @@ use Rattle.rv_spec.specs.Words.{u32_at}
 use Rattle.rv_spec.specs.Elf.{image}
 use Rattle.rv_spec.specs.Trace.{Row}
 use Rattle.rv_spec.specs.Digest.{Lanes, digest}
-use Rattle.rv_spec.specs.Lists.{events, tuple_read, tuple_written}
+use Rattle.rv_spec.specs.Tuples.{events, tuple_read, tuple_written}
 use Rattle.rv_spec.specs.Record.{Shard, Parts, shard_rows, rows_length, all_rows, reads, writes}
-use Rattle.rv_spec.specs.Form.{Spells}
-use Rattle.rv_spec.specs.Checks.{Check, unless_broken, ◌>>=◌}
-use Rattle.rv_spec.specs.RowRules.{row_checks, row_rule, place_after}
-use Rattle.rv_spec.specs.Reading.{Reading, header_of, head_of, row_of, digest_of, last_of, same_place, row_form, header_checks, read_row, read_rows, read_shard, read_shards, read_entries}
-use Rattle.rv_spec.specs.Verdict.{judge}
-use Rattle.rv_spec.proofs.MultisetLaws.{left_true}
+use Rattle.rv_spec.specs.Grammar.{Spells}
+use Rattle.rv_rules.specs.Checks.{Check, unless_broken, ◌>>=◌}
+use Rattle.rv_rules.specs.RowRules.{row_checks, row_rule, place_after}
+use Rattle.rv_rules.specs.Reading.{Reading, header_of, head_of, row_of, digest_of, last_of, same_place, row_form, header_checks, read_row, read_rows, read_shard, read_shards, read_entries}
+use Rattle.rv_rules.specs.Verdict.{judge}
+use Rattle.rv_rules.proofs.Lemmas.{left_true}
 use Rattle.rv_file.proofs.Lemmas.{bind_ok, unless_ok, unless_holds, ok_is}
 use Rattle.rv_file.proofs.Lemmas.{row_in, rows_in, with_row}
 use Rattle.rv_file.proofs.Lemmas.{shard_in, shards_in, with_shard, agrees, begins, made, ends}
 use Rattle.rv_file.proofs.Lemmas.{front_holds}
 use Rattle.rv_file.proofs.Lemmas.{ends_parse, after_header, after_shards, after_count, all_checks, parse_is, is_parsed}
-use Rattle.rv_sound.specs.Accepted.{place_through, RowsHold, ShardHolds, ShardsHold, first_place, IsAccepted}
+use Rattle.rv_sound.specs.Accepted.{place_through, RowsHold, ShardHolds, ShardsHold, entry_place, IsAccepted}
 use Rattle.rv_sound.proofs.Shards.{through-append}
 use Rattle.rv_sound.proofs.RowFollows.{AllHold, all-hold, none-broken}
 use Rattle.rv_sound.proofs.ReadingSteps.{at_place, Rows, heads, digests_hold, finishes, Shards, last_checks, from_count, from_shards, from_header, judged-by-steps}
@@ -130,14 +130,14 @@ module _ (lanes : Lanes) (elf input : List ℕ) where
       let t : AllHold ((25, true) ∷ (26, true) ∷ (27, length d.0.1 == 0) ∷ []) = all-hold ((25, true) ∷ (26, true) ∷ (27, length d.0.1 == 0) ∷ []) v.0 in
       subst (λ (y : Parts). IsAccepted lanes elf input y → judge lanes elf input file ≡ Ok y) v.1
       (λ ok.
-      let to : Place = place_through h.version input (first_place elf) (all_rows made) in
+      let to : Place = place_through h.version input (entry_place elf) (all_rows made) in
       let checks : List Check = header_checks true lanes elf input file in
       let opened : unless_broken 0 0 checks (drop 173 file) ≡ Ok a.0 = unless_holds 0 0 checks (drop 173 file)
       (none-broken checks (c.0, (c.1.0, ((bytes_eq-Decides h.elf (sha512 elf)).1 ok.elf_hash, ((bytes_eq-Decides h.input (sha512 input)).1 ok.input_hash, c.1.1.1.1))))) ∙ ap (λ (l : List ℕ). Ok l) u.1 in
       let ended : List Check = last_checks lanes elf input made to d.0.1 in
       judged-by-steps lanes elf input file
       ∙ ap (λ (z : Result (List ℕ) Refusal). z >>= from_header lanes elf input h) opened
-      ∙ ap (λ (z : Result (Reading (List Shard)) Refusal). z >>= from_shards lanes elf input h output) (shards-judged h.shards h output 0 (first_place elf) q rest b.0 b.1 ok.shards)
+      ∙ ap (λ (z : Result (Reading (List Shard)) Refusal). z >>= from_shards lanes elf input h output) (shards-judged h.shards h output 0 (entry_place elf) q rest b.0 b.1 ok.shards)
       ∙ ap (λ (z : Result (List ℕ) Refusal). z >>= from_count lanes elf input h output (at_place b.0 to)) k.1
       ∙ ap (λ (z : Result (List TableEntry × List ℕ) Refusal). z >>= λ entries. unless_broken h.shards count (last_checks lanes elf input (record { header = h; output = output; shards = b.0.part; table = entries.0 }) to entries.1) (record { header = h; output = output; shards = b.0.part; table = entries.0 })) d.1
       ∙ unless_holds h.shards count ended made (none-broken ended (

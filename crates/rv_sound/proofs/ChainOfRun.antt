@@ -10,18 +10,18 @@ use Rattle.rv_spec.specs.Elf.{Image}
 use Rattle.rv_spec.specs.Step.{State}
 use Rattle.rv_spec.specs.Run.{run, next_state, EndsIn}
 use Rattle.rv_spec.specs.Cells.{value, initial_value, time_of}
-use Rattle.rv_spec.specs.Touches.{Use, Visit, visit, step_uses, touches}
-use Rattle.rv_spec.specs.Trace.{Row, left_by, history, row, rows, access, last_use, table, table_of}
-use Rattle.rv_spec.specs.Lists.{Event, event, events, tuple_written, all_read, all_written}
-use Rattle.rv_spec.specs.Form.{RowFits}
+use Rattle.rv_spec.specs.Visits.{Use, Visit, visit, step_uses, visits}
+use Rattle.rv_spec.specs.Trace.{Row, tuples_left, history, row, rows, access, last_use, table, table_of}
+use Rattle.rv_spec.specs.Tuples.{Event, event, events, tuple_written, all_read, all_written}
+use Rattle.rv_spec.specs.Grammar.{RowFits}
 use Rattle.rv_spec.specs.Multiset.{Same}
-use Rattle.rv_spec.specs.Chain.{AllDiffer, AreOrdered, IsChain, value_before}
+use Rattle.rv_rules.specs.Chain.{AllDiffer, AreOrdered, IsChain, value_before}
 use Rattle.rv_spec.specs.Record.{place_at}
-use Rattle.rv_spec.specs.Reading.{last_of}
-use Rattle.rv_spec.specs.RowRules.{seen}
-use Rattle.rv_spec.specs.Agreement.{IsState, touch_of}
-use Rattle.rv_spec.proofs.ChainCore.{In}
-use Rattle.rv_spec.proofs.Members.{all-of}
+use Rattle.rv_rules.specs.Reading.{last_of}
+use Rattle.rv_rules.specs.RowRules.{seen}
+use Rattle.rv_rules.specs.Agreement.{IsState, touch_of}
+use Rattle.rv_rules.specs.Membership.{In}
+use Rattle.rv_rules.proofs.Lemmas.{all-of}
 use Rattle.rv_order.specs.OwnTimes.{HaveOwnTimes}
 use Rattle.rv_order.proofs.Lemmas.{chain-ordered, chain-same}
 use Rattle.rv_isa.proofs.Lemmas.{holds-last-uses}
@@ -75,7 +75,7 @@ module _ (h : Header) (i : Image) (input : List ℕ) (version : i.version ≡ h.
   all-written (suc c) k =
       let here : List Event = map (event k) (row i input k).accesses in
       let later : List Event = events (k + 1) (rows i input (k + 1) c) in
-      let left : map tuple_written here ≡ left_by k (touches input (run i input k)) = left-same k (row i input k).accesses (touches input (run i input k)) (touches-in (history i input (suc k)) k (touches input (run i input k))) in
+      let left : map tuple_written here ≡ tuples_left k (visits input (run i input k)) = left-same k (row i input k).accesses (visits input (run i input k)) (touches-in (history i input (suc k)) k (visits input (run i input k))) in
       let next : suc k ≡ k + 1 = omega arith in
       let count : k + 1 + c ≡ k + suc c = omega arith in
       ap (λ (l : List Tuple). history i input k ++ l) (map-append tuple_written here later)
@@ -144,7 +144,7 @@ module _ (h : Header) (i : Image) (input : List ℕ) (version : i.version ≡ h.
     all-differ = let within : 0 + h.steps ≤ h.steps = omega arith in rows-differ h input out (rows i input 0 h.steps) 0 (place_at i input 0) (hold 0 h.steps within) (fits 0 h.steps within)
 
     visited : (a : Access) → In a accs → (a.old ≡ value s a.cell) × (a.prev ≡ last_use (history i input (suc k)) a.cell (time_of k a.slot))
-    unfolding touches
+    unfolding visits
     visited a m = visit-old (history i input (suc k)) k s (next_state input s) (step_uses input s) a m
 
     value-is : (a : Access) → In a accs → a.old ≡ value_before (initial_value i) own a.cell (time_of k a.slot)
@@ -156,7 +156,7 @@ module _ (h : Header) (i : Image) (input : List ℕ) (version : i.version ≡ h.
     up-to-row : map tuple_written (before ++ here) ≡ history i input (suc k)
     unfolding history
     up-to-row =
-        let left : map tuple_written here ≡ left_by k (touches input s) = left-same k accs (touches input s) (touches-in (history i input (suc k)) k (touches input s)) in
+        let left : map tuple_written here ≡ tuples_left k (visits input s) = left-same k accs (visits input s) (touches-in (history i input (suc k)) k (visits input s)) in
         map-append tuple_written before here ∙ (λ j. hist j ++ left j)
 
     time-is : (a : Access) → In a accs → a.prev ≡ last_use own a.cell (time_of k a.slot)

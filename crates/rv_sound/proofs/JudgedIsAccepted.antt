@@ -14,19 +14,19 @@ use Rattle.rv_spec.specs.Words.{AreBytes, u32_at}
 use Rattle.rv_spec.specs.Elf.{image}
 use Rattle.rv_spec.specs.Trace.{Row}
 use Rattle.rv_spec.specs.Digest.{Lanes, digest}
-use Rattle.rv_spec.specs.Lists.{events, tuple_read, tuple_written}
+use Rattle.rv_spec.specs.Tuples.{events, tuple_read, tuple_written}
 use Rattle.rv_spec.specs.Record.{Shard, Parts, shard_rows, rows_length, all_rows, reads, writes}
-use Rattle.rv_spec.specs.Form.{Spells}
-use Rattle.rv_spec.specs.Checks.{Check, first_broken, unless_broken, ◌>>=◌}
-use Rattle.rv_spec.specs.RowRules.{row_checks, row_rule, place_after}
-use Rattle.rv_spec.specs.Reading.{Reading, header_of, head_of, row_of, digest_of, last_of, same_place, row_form, header_checks, read_row, read_rows, read_shard, read_shards, read_entries}
-use Rattle.rv_spec.specs.Verdict.{judge, parse}
-use Rattle.rv_spec.proofs.MultisetLaws.{left_true, right_true}
+use Rattle.rv_spec.specs.Grammar.{Spells}
+use Rattle.rv_rules.specs.Checks.{Check, first_broken, unless_broken, ◌>>=◌}
+use Rattle.rv_rules.specs.RowRules.{row_checks, row_rule, place_after}
+use Rattle.rv_rules.specs.Reading.{Reading, header_of, head_of, row_of, digest_of, last_of, same_place, row_form, header_checks, read_row, read_rows, read_shard, read_shards, read_entries}
+use Rattle.rv_rules.specs.Verdict.{judge, parse}
+use Rattle.rv_rules.proofs.Lemmas.{left_true, right_true}
 use Rattle.rv_file.proofs.Lemmas.{bind_ok, unless_ok, unless_holds, ok_is}
 use Rattle.rv_file.proofs.Lemmas.{row_in, rows_in, with_row}
 use Rattle.rv_file.proofs.Lemmas.{shard_in, shards_in, with_shard, agrees, begins, made, ends}
 use Rattle.rv_file.proofs.Lemmas.{ends_parse, after_header, after_shards, after_count, all_checks, parse_is, form_is_grammar}
-use Rattle.rv_sound.specs.Accepted.{place_through, RowsHold, ShardHolds, ShardsHold, first_place, IsAccepted}
+use Rattle.rv_sound.specs.Accepted.{place_through, RowsHold, ShardHolds, ShardsHold, entry_place, IsAccepted}
 use Rattle.rv_sound.proofs.Shards.{through-append}
 use Rattle.rv_sound.proofs.RowFollows.{AllHold, all-hold, none-broken}
 use Rattle.rv_sound.proofs.ReadingSteps.{at_place, Rows, heads, digests_hold, finishes, Shards, last_checks, from_count, from_shards, from_header, judged-by-steps}
@@ -159,9 +159,9 @@ module _ (lanes : Lanes) (elf input : List ℕ) where
     pub form : parse file ≡ Ok parts
     pub elf_hash : parts.header.elf ≡ sha512 elf
     pub input_hash : parts.header.input ≡ sha512 input
-    pub shards : ShardsHold lanes parts.header input parts.output 0 (first_place elf) parts.shards
-    pub taken : (place_through parts.header.version input (first_place elf) (all_rows parts)).input ≡ parts.header.consumed
-    pub put : (place_through parts.header.version input (first_place elf) (all_rows parts)).output ≡ parts.header.length
+    pub shards : ShardsHold lanes parts.header input parts.output 0 (entry_place elf) parts.shards
+    pub taken : (place_through parts.header.version input (entry_place elf) (all_rows parts)).input ≡ parts.header.consumed
+    pub put : (place_through parts.header.version input (entry_place elf) (all_rows parts)).output ≡ parts.header.length
     pub balance : digest lanes (reads parts) ≡ digest lanes (writes (image parts.header.version elf) parts)
 
   file-read : (file : List ℕ) (parts : Parts) → judge lanes elf input file ≡ Ok parts → FileRead file parts
@@ -174,8 +174,8 @@ module _ (lanes : Lanes) (elf input : List ℕ) where
       let header = header-read file u.0 in
       let output : List ℕ = take h.length a.0 in
       let rest : List ℕ = drop h.length a.0 in
-      let b = bind_ok (Shards lanes elf input h.shards h output 0 (first_place elf) rest) (from_shards lanes elf input h output) parts a.2 in
-      let shards : ShardsRead h.shards h output 0 (first_place elf) q rest b.0 = shards-read h.shards h output 0 (first_place elf) q rest b.0 b.1 in
+      let b = bind_ok (Shards lanes elf input h.shards h output 0 (entry_place elf) rest) (from_shards lanes elf input h output) parts a.2 in
+      let shards : ShardsRead h.shards h output 0 (entry_place elf) q rest b.0 = shards-read h.shards h output 0 (entry_place elf) q rest b.0 b.1 in
       let left : List ℕ = b.0.left in
       let c = bind_ok (unless_broken h.shards 0 ((1, nat_le 4 (length left)) ∷ []) (drop 4 left)) (from_count lanes elf input h output b.0) parts b.2 in
       let count : ℕ = u32_at left 0 in

@@ -10,12 +10,12 @@ use Rattle.rv_base.specs.declared.record.TableEntry.{TableEntry}
 use Rattle.rv_base.specs.declared.record.Touch.{Touch}
 use Rattle.rv_spec.specs.Cells.{time_of}
 use Rattle.rv_spec.specs.Trace.{Row}
-use Rattle.rv_spec.specs.Lists.{event, events}
-use Rattle.rv_spec.specs.Form.{AccessFits, RowFits, IsRising}
-use Rattle.rv_spec.specs.Chain.{AllDiffer, AreOrdered}
-use Rattle.rv_spec.specs.Reading.{last_of}
-use Rattle.rv_spec.specs.RowRules.{old_in, seen, place_after}
-use Rattle.rv_spec.proofs.OwnTimes.{rising-differ}
+use Rattle.rv_spec.specs.Tuples.{event, events}
+use Rattle.rv_spec.specs.Grammar.{AccessFits, RowFits, IsRising}
+use Rattle.rv_rules.specs.Chain.{AllDiffer, AreOrdered}
+use Rattle.rv_rules.specs.Reading.{last_of}
+use Rattle.rv_rules.specs.RowRules.{old_in, seen, place_after}
+use Rattle.rv_rules.proofs.Lemmas.{rising-differ}
 use Rattle.rv_sound.specs.Accepted.{RowsHold}
 use Rattle.rv_sound.proofs.RowFollows.{touch_in, RowFollows, row-follows}
 use Rattle.rv_isa.specs.Shape.{AreShaped}
@@ -122,6 +122,6 @@ module _ (h : Header) (input output : List ℕ) where
         differ = rising-differ (map (λ e. e.time) (events 0 rs)) (rise-rising 0 (time_of n 0) (map (λ e. e.time) (events 0 rs)) rise);
         earlier = rows-earlier rs 0 p holds;
         below = map-all (λ y. y < time_of n 0) (λ e. e.time) (events 0 rs) (rise-below 0 (time_of n 0) (map (λ e. e.time) (events 0 rs)) rise);
-        late = late;
+        after_start = late;
         rising = rising;
       }

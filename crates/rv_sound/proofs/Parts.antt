@@ -12,17 +12,18 @@ use Rattle.rv_spec.specs.Step.{State}
 use Rattle.rv_spec.specs.Run.{run, end_at, EndsIn}
 use Rattle.rv_spec.specs.Cells.{initial_value, time_of}
 use Rattle.rv_spec.specs.Trace.{Row, row, rows, history, table_of, table}
-use Rattle.rv_spec.specs.Lists.{Event, events, tuple_written}
+use Rattle.rv_spec.specs.Tuples.{Event, events, tuple_written}
 use Rattle.rv_spec.specs.Digest.{Lanes}
 use Rattle.rv_spec.specs.Multiset.{Same}
-use Rattle.rv_spec.specs.Record.{Parts, all_rows, reads, writes, place_at, shard, record_parts, HasRecord}
-use Rattle.rv_spec.specs.Form.{EntryFits}
-use Rattle.rv_spec.specs.Chain.{AreOrdered, IsChain}
-use Rattle.rv_spec.proofs.ChainLaws.{chain}
+use Rattle.rv_spec.specs.Record.{Parts, all_rows, reads, writes, place_at, shard, record_parts}
+use Rattle.rv_spec.specs.Conclusion.{HasRecord}
+use Rattle.rv_spec.specs.Grammar.{EntryFits}
+use Rattle.rv_rules.specs.Chain.{AreOrdered, IsChain}
+use Rattle.rv_rules.proofs.Lemmas.{chain}
 use Rattle.rv_elf.proofs.Lemmas.{image-is-program}
 use Rattle.rv_isa.proofs.Lemmas.{holds-last-uses}
 use Rattle.rv_isa.proofs.Lemmas.{runs-are-states}
-use Rattle.rv_sound.specs.Accepted.{place_through, RowsHold, first_place, IsAccepted}
+use Rattle.rv_sound.specs.Accepted.{place_through, RowsHold, entry_place, IsAccepted}
 use Rattle.rv_sound.proofs.Ordered.{ordered}
 use Rattle.rv_sound.proofs.Runs.{AreStepRows, rows-are-steps}
 use Rattle.rv_sound.proofs.Lists.{length-none, rows-split, all-weaken}
@@ -44,7 +45,7 @@ record RunFacts (m : Image) (input : List ℕ) (parts : Parts) : Type 0 where
   pub table : parts.table ≡ table_of (map tuple_written (events 0 (all_rows parts))) (time_of parts.header.steps 0)
 
 -- the place before the first step is that of the run
-pub first-place-is : (elf input : List ℕ) (version : ℕ) → first_place elf ≡ place_at (image version elf) input 0
+pub first-place-is : (elf input : List ℕ) (version : ℕ) → entry_place elf ≡ place_at (image version elf) input 0
 unfolding run
 first-place-is elf input version = refl
 
@@ -63,10 +64,10 @@ run-facts lanes elf input parts faultless bytes input_bytes a same =
     let count : 0 + length parts.shards ≡ div_ceil n h.size = omega (arith, a.fit.count, a.fit.header.shards) in
     subst (λ x. n ≤ x * h.size) (sym count) (shards-suffice n h.size size_some)
     ) in
-    let flat_rows : AreRows lanes h input parts.output 0 (first_place elf) rs = shards-are-rows lanes h input parts.output parts.shards 0 (first_place elf) all a.fit.shards a.shards in
+    let flat_rows : AreRows lanes h input parts.output 0 (entry_place elf) rs = shards-are-rows lanes h input parts.output parts.shards 0 (entry_place elf) all a.fit.shards a.shards in
     let count : length rs ≡ n = omega (arith, flat_rows.count) in
-    let hold : RowsHold h input parts.output 0 (first_place elf) rs = subst (λ k. RowsHold h input parts.output k (first_place elf) rs) (let none : 0 * h.size ≡ 0 = omega arith in none) flat_rows.hold in
-    let o : AreOrdered es parts.table (time_of n 0) = ordered h input parts.output rs n (first_place elf) parts.table hold flat_rows.fit count
+    let hold : RowsHold h input parts.output 0 (entry_place elf) rs = subst (λ k. RowsHold h input parts.output k (entry_place elf) rs) (let none : 0 * h.size ≡ 0 = omega arith in none) flat_rows.hold in
+    let o : AreOrdered es parts.table (time_of n 0) = ordered h input parts.output rs n (entry_place elf) parts.table hold flat_rows.fit count
     (all-weaken (EntryFits h.version) (λ t. 0 < t.time) (λ t f. omega (arith, f.time.0)) parts.table a.fit.entries) a.fit.rising in
     let c : IsChain (initial_value m) es parts.table (time_of n 0) = chain (initial_value m) es parts.table (time_of n 0) o same in
     let states = runs-are-states m input (image-is-program h.version elf bytes faultless) input_bytes in
@@ -110,9 +111,9 @@ record-of lanes elf input parts faultless a r =
     let size_some : 0 < h.size = omega (arith, a.fit.header.size.0) in
     let steps_some : 0 < n = omega (arith, a.fit.header.steps.0) in
     let state : State = run m input n in
-    let first : first_place elf ≡ place_at m input 0 = first-place-is elf input h.version in
+    let first : entry_place elf ≡ place_at m input 0 = first-place-is elf input h.version in
     let counted : 0 + length (all_rows parts) ≡ n = (let same : 0 + length (all_rows parts) ≡ length (all_rows parts) = omega arith in same ∙ ap length r.are ∙ length-map-range_with_len (row m input) 0 n) in
-    let end_place : place_through h.version input (first_place elf) (all_rows parts) ≡ place_at m input n =
+    let end_place : place_through h.version input (entry_place elf) (all_rows parts) ≡ place_at m input n =
     ap (λ (p : Place). place_through h.version input p (all_rows parts)) first ∙ r.places (all_rows parts) [] (sym (append-nil (all_rows parts))) ∙ ap (place_at m input) counted in
     let put : length state.output ≡ h.length = sym (ap (λ (p : Place). p.output) end_place) ∙ a.put in
     let taken : state.position ≡ h.consumed = sym (ap (λ (p : Place). p.input) end_place) ∙ a.taken in
@@ -127,17 +128,17 @@ record-of lanes elf input parts faultless a r =
     let none : n - 0 * h.size ≡ n = omega arith in
     let all : 0 + length parts.shards ≡ div_ceil n h.size = omega (arith, a.fit.count, a.fit.header.shards) in
     let shards : parts.shards ≡ map (shard lanes m input h.size n) (range_with_len 0 (length parts.shards)) =
-    shards-are lanes h input parts.output m (div_ceil n h.size) places (λ j. shard-starts n h.size j size_some) parts.shards 0 (first_place elf) all
+    shards-are lanes h input parts.output m (div_ceil n h.size) places (λ j. shard-starts n h.size j size_some) parts.shards 0 (entry_place elf) all
     (λ some. first ∙ ap (place_at m input) (sym from)) (r.are ∙ (λ t. rows m input (sym from t) (sym none t))) a.fit.shards a.shards in
     let shard_count : length parts.shards ≡ div_ceil n h.size = omega (arith, all) in
     let shards_all : parts.shards ≡ map (shard lanes m input h.size n) (range_with_len 0 (div_ceil n h.size)) = shards ∙ ap (λ k. map (shard lanes m input h.size n) (range_with_len 0 k)) shard_count in
     record {
       has = record {
-        known = a.fit.header.version;
-        loads = faultless;
+        version_within = a.fit.header.version;
+        faultless = faultless;
         ends = ends;
         size_within = a.fit.header.size;
-        shards_within = omega (arith, a.fit.header.shards, a.fit.header.most);
+        shards_within = omega (arith, a.fit.header.shards, a.fit.header.shards_within);
         output_within = omega (arith, put, a.fit.header.length);
       };
       is = λ t. record {

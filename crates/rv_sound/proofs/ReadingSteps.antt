@@ -8,13 +8,13 @@ use Rattle.rv_spec.specs.Words.{u32_at}
 use Rattle.rv_spec.specs.Elf.{image}
 use Rattle.rv_spec.specs.Trace.{Row}
 use Rattle.rv_spec.specs.Digest.{Lanes, digest}
-use Rattle.rv_spec.specs.Lists.{events, tuple_read, tuple_written}
+use Rattle.rv_spec.specs.Tuples.{events, tuple_read, tuple_written}
 use Rattle.rv_spec.specs.Record.{Shard, Parts, rows_length, reads, writes}
-use Rattle.rv_spec.specs.Checks.{Check, unless_broken, ◌>>=◌}
-use Rattle.rv_spec.specs.Reading.{Reading, header_of, head_of, digest_of, same_place, header_checks, read_rows, read_shards, read_entries, read_file}
-use Rattle.rv_spec.specs.Verdict.{judge}
+use Rattle.rv_rules.specs.Checks.{Check, unless_broken, ◌>>=◌}
+use Rattle.rv_rules.specs.Reading.{Reading, header_of, head_of, digest_of, same_place, header_checks, read_rows, read_shards, read_entries, read_file}
+use Rattle.rv_rules.specs.Verdict.{judge}
 use Rattle.rv_file.proofs.Lemmas.{made}
-use Rattle.rv_sound.specs.Accepted.{first_place}
+use Rattle.rv_sound.specs.Accepted.{entry_place}
 
 -- what was read, at a place
 abbrev pub at_place : {A : Type 0} → Reading A → Place → Reading A
@@ -59,7 +59,7 @@ module _ (lanes : Lanes) (elf input : List ℕ) where
   from_shards h output shards = unless_broken h.shards 0 ((1, nat_le 4 (length shards.left)) ∷ []) (drop 4 shards.left) >>= from_count h output shards
 
   abbrev pub from_header : Header → List ℕ → Result Parts Refusal
-  from_header h body = Shards h.shards h (take h.length body) 0 (first_place elf) (drop h.length body) >>= from_shards h (take h.length body)
+  from_header h body = Shards h.shards h (take h.length body) 0 (entry_place elf) (drop h.length body) >>= from_shards h (take h.length body)
 
   -- these steps are the reading of the definition
   pub judged-by-steps : (file : List ℕ) → judge lanes elf input file ≡ (unless_broken 0 0 (header_checks true lanes elf input file) (drop 173 file) >>= from_header (header_of file))

@@ -17,20 +17,21 @@ use Rattle.rv_spec.specs.Elf.{Image, image}
 use Rattle.rv_spec.specs.Run.{run, EndsIn}
 use Rattle.rv_spec.specs.Cells.{initial_value, time_of}
 use Rattle.rv_spec.specs.Trace.{Row, row, rows, table}
-use Rattle.rv_spec.specs.Lists.{events, tuple_read, tuple_written, all_read, all_written}
+use Rattle.rv_spec.specs.Tuples.{events, tuple_read, tuple_written, all_read, all_written}
 use Rattle.rv_spec.specs.Digest.{Lanes, digest, digest_lane, lane_numbers}
 use Rattle.std.specs.Prelude.{sum_by, slice_index}
-use Rattle.rv_spec.proofs.Members.{all-of}
+use Rattle.rv_rules.proofs.Lemmas.{all-of}
 use Rattle.rv_spec.specs.Multiset.{Same}
-use Rattle.rv_spec.specs.Record.{Shard, reads, writes, shard_rows, place_at, shard, header, record_parts, record_file, HasRecord}
-use Rattle.rv_spec.specs.Form.{AreNumbers, RowFits, ShardsFit, Spells}
-use Rattle.rv_spec.specs.Chain.{AreOrdered}
-use Rattle.rv_spec.specs.Agreement.{IsState}
-use Rattle.rv_spec.proofs.MultisetLaws.{digest-same}
+use Rattle.rv_spec.specs.Record.{Shard, reads, writes, shard_rows, place_at, shard, header, record_parts, record_file}
+use Rattle.rv_spec.specs.Conclusion.{HasRecord}
+use Rattle.rv_spec.specs.Grammar.{AreNumbers, RowFits, ShardsFit, Spells}
+use Rattle.rv_rules.specs.Chain.{AreOrdered}
+use Rattle.rv_rules.specs.Agreement.{IsState}
+use Rattle.rv_rules.proofs.Lemmas.{digest-same}
 use Rattle.rv_elf.proofs.Lemmas.{image-is-program}
 use Rattle.rv_isa.specs.Ranges.{EndFits, StepFits}
 use Rattle.rv_isa.proofs.Lemmas.{runs-are-states, runs-fit}
-use Rattle.rv_sound.specs.Accepted.{place_through, RowsHold, ShardsHold, first_place, IsAccepted}
+use Rattle.rv_sound.specs.Accepted.{place_through, RowsHold, ShardsHold, entry_place, IsAccepted}
 use Rattle.rv_sound.proofs.Parts.{first-place-is}
 use Rattle.rv_sound.proofs.Shards.{shard-starts, shards-suffice}
 use Rattle.rv_sound.proofs.RowRanges.{row-fits}
@@ -164,9 +165,9 @@ record-accepted lanes version elf input size n e bytes input_bytes has =
     let i : Image = image version elf in
     let h : Header = header version elf input size n e in
     let d : ℕ = div_ceil n size in
-    let states = runs-are-states i input (image-is-program version elf bytes has.loads) input_bytes in
+    let states = runs-are-states i input (image-is-program version elf bytes has.faultless) input_bytes in
     let only : (k : ℕ) → IsState (run i input k) = λ k. (states k).0 in
-    let ranges : (k : ℕ) → StepFits i input k = runs-fit i input (image-is-program version elf bytes has.loads) input_bytes in
+    let ranges : (k : ℕ) → StepFits i input k = runs-fit i input (image-is-program version elf bytes has.faultless) input_bytes in
     let some : 0 < size = omega (arith, has.size_within.0) in
     let few : n ≤ 2 ^ 32 = few-steps n size has.size_within has.shards_within in
     let small : n < 2 ^ 59 = omega (arith, few) in
@@ -180,23 +181,23 @@ record-accepted lanes version elf input size n e bytes input_bytes has =
     let within : 0 + d ≤ d = omega arith in
     let rs : List Row = flat_map (λ s. s.rows) (map (shard lanes i input size n) (range_with_len 0 d)) in
     let all : rs ≡ rows i input 0 n = all-run-rows lanes h i input refl states ranges has.ends small some starts has.output_within d 0 none (shards-suffice n size some) ∙ (λ t. rows i input (from t) (left t)) in
-    let first : first_place elf ≡ place_at i input 0 = first-place-is elf input version in
+    let first : entry_place elf ≡ place_at i input 0 = first-place-is elf input version in
     let to : 0 + n ≡ n = omega arith in
-    let place : place_through version input (first_place elf) rs ≡ place_at i input n = (λ t. place_through version input (first t) (all t)) ∙ rows-lead h i input refl states has.ends n 0 ∙ ap (place_at i input) to in
+    let place : place_through version input (entry_place elf) rs ≡ place_at i input n = (λ t. place_through version input (first t) (all t)) ∙ rows-lead h i input refl states has.ends n 0 ∙ ap (place_at i input) to in
     let end : EndFits e = (ranges (n - 1)).ends e has.ends.last in
     record {
       fit = record {
         header = record {
-          version = has.known;
+          version = has.version_within;
           elf = (length-sha512 elf, hash-bytes elf);
           input = (length-sha512 input, hash-bytes input);
           size = has.size_within;
           steps = (has.ends.some, omega (arith, few));
           shards = refl;
-          most = has.shards_within;
+          shards_within = has.shards_within;
           kind = end.kind;
           code = end.code;
-          plain = end.plain;
+          code_of_exit = end.code_of_exit;
           consumed = omega (arith, few, (ranges n).taken);
           length = has.output_within;
         };
@@ -209,7 +210,7 @@ record-accepted lanes version elf input size n e bytes input_bytes has =
       };
       elf_hash = refl;
       input_hash = refl;
-      shards = run-shards lanes h i input refl states ranges has.ends small some starts has.output_within d 0 (first_place elf) within (λ more. first ∙ ap (place_at i input) (sym from));
+      shards = run-shards lanes h i input refl states ranges has.ends small some starts has.output_within d 0 (entry_place elf) within (λ more. first ∙ ap (place_at i input) (sym from));
       taken = ap (λ (p : Place). p.input) place;
       put = ap (λ (p : Place). p.output) place;
       balance = digest-same lanes _ _ (subst (λ (l : List Row). Same (all_read (events 0 l) (table i input n)) (all_written (initial_value i) (events 0 l) (table i input n))) (sym all) same);

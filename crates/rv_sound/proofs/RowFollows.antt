@@ -10,10 +10,10 @@ use Rattle.rv_base.specs.declared.record.Place.{Place}
 use Rattle.rv_base.specs.declared.record.Touch.{Touch}
 use Rattle.rv_spec.specs.Cells.{time_of}
 use Rattle.rv_spec.specs.Trace.{Row}
-use Rattle.rv_spec.specs.Checks.{Check, first_broken}
-use Rattle.rv_spec.specs.Expected.{Expected}
-use Rattle.rv_spec.specs.RowRules.{due, row_rule, row_checks, ends_as}
-use Rattle.rv_spec.proofs.MultisetLaws.{left_true, right_true}
+use Rattle.rv_rules.specs.Checks.{Check, first_broken}
+use Rattle.rv_rules.specs.Expected.{Expected}
+use Rattle.rv_rules.specs.RowRules.{due, row_rule, row_checks, ends_as}
+use Rattle.rv_rules.proofs.Lemmas.{left_true, right_true}
 
 -- an access without its old value and the time before
 abbrev pub touch_in : Access → Touch

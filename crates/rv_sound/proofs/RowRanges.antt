@@ -7,10 +7,10 @@ use Rattle.rv_spec.specs.Elf.{Image}
 use Rattle.rv_spec.specs.Step.{State}
 use Rattle.rv_spec.specs.Run.{run, next_state}
 use Rattle.rv_spec.specs.Cells.{value, time_of}
-use Rattle.rv_spec.specs.Touches.{Use, visit, step_uses, touches}
+use Rattle.rv_spec.specs.Visits.{Use, visit, step_uses, visits}
 use Rattle.rv_spec.specs.Trace.{history, row, access}
-use Rattle.rv_spec.specs.Form.{AccessFits, RowFits}
-use Rattle.rv_spec.specs.Agreement.{IsState}
+use Rattle.rv_spec.specs.Grammar.{AccessFits, RowFits}
+use Rattle.rv_rules.specs.Agreement.{IsState}
 use Rattle.rv_isa.specs.Ranges.{Rises, AreCells, StepFits}
 use Rattle.rv_order.proofs.Lemmas.{last_use-lt}
 
@@ -43,7 +43,7 @@ accesses-fit h version k lo s t (u ∷ us) small some old new r c =
 
 -- a row of a run of few steps has these ranges
 pub row-fits : (i : Image) (input : List ℕ) → ((n : ℕ) → IsState (run i input n)) → ((n : ℕ) → StepFits i input n) → (k : ℕ) → k < 2 ^ 59 → RowFits (row i input k)
-unfolding touches step_uses run
+unfolding visits step_uses run
 row-fits i input states fits k small =
     let s : State = run i input k in
     let us : List Use = step_uses input s in

@@ -4,8 +4,8 @@ use Rattle.std.proofs.lemmas.Bool.{eq-eqb, ne_eqb, cases_lt}
 use Rattle.rv_base.specs.declared.record.Access.{Access}
 use Rattle.rv_base.specs.declared.record.Seen.{Seen}
 use Rattle.rv_base.specs.declared.record.Touch.{Touch}
-use Rattle.rv_spec.specs.RowRules.{old_in, seen}
-use Rattle.rv_spec.proofs.ChainCore.{In}
+use Rattle.rv_rules.specs.RowRules.{old_in, seen}
+use Rattle.rv_rules.specs.Membership.{In}
 use Rattle.rv_isa.specs.Shape.{IsSlotted, AreShaped}
 use Rattle.rv_isa.proofs.Lemmas.{slot-seen}
 use Rattle.rv_sound.proofs.RowFollows.{touch_in}

@@ -9,15 +9,15 @@ use Rattle.rv_spec.specs.Elf.{Image}
 use Rattle.rv_spec.specs.Step.{State}
 use Rattle.rv_spec.specs.Run.{run}
 use Rattle.rv_spec.specs.Cells.{value, initial_value, time_of}
-use Rattle.rv_spec.specs.Touches.{Use, Visit, visit}
-use Rattle.rv_spec.specs.Trace.{left_by, history, last_use, access}
-use Rattle.rv_spec.specs.Lists.{Event, event, tuple_written}
-use Rattle.rv_spec.specs.Chain.{AreOrdered, IsChain, value_before}
-use Rattle.rv_spec.specs.RowRules.{seen}
-use Rattle.rv_spec.specs.Agreement.{HoldsLastUses, touch_of}
-use Rattle.rv_spec.proofs.ChainCore.{In}
-use Rattle.rv_spec.proofs.Members.{in-map-back, all-in, all-of}
-use Rattle.rv_isa.specs.Sees.{in_slot}
+use Rattle.rv_spec.specs.Visits.{Use, Visit, visit}
+use Rattle.rv_spec.specs.Trace.{tuples_left, history, last_use, access}
+use Rattle.rv_spec.specs.Tuples.{Event, event, tuple_written}
+use Rattle.rv_rules.specs.Chain.{AreOrdered, IsChain, value_before}
+use Rattle.rv_rules.specs.RowRules.{seen}
+use Rattle.rv_rules.specs.Agreement.{HoldsLastUses, touch_of}
+use Rattle.rv_rules.specs.Membership.{In}
+use Rattle.rv_rules.proofs.Lemmas.{in-map-back, all-in, all-of}
+use Rattle.rv_isa.specs.Sees.{seen_in}
 use Rattle.rv_isa.specs.Shape.{AreShaped}
 use Rattle.rv_isa.specs.Follows.{SeesTouches}
 use Rattle.rv_isa.proofs.Lemmas.{slot-seen}
@@ -35,12 +35,12 @@ unfolding tuple_at
 left-row k [] = refl
 left-row k (a ∷ accs) = λ i. tuple_written (event k a) ∷ left-row k accs i
 
-left-visits : (k : ℕ) (vs : List Visit) → map (tuple_at k) (map touch_of vs) ≡ left_by k vs
+left-visits : (k : ℕ) (vs : List Visit) → map (tuple_at k) (map touch_of vs) ≡ tuples_left k vs
 unfolding tuple_at
 left-visits k [] = refl
 left-visits k (v ∷ vs) = λ i. record { cell = v.cell; value = v.new; time = time_of k v.slot } ∷ left-visits k vs i
 
-pub left-same : (k : ℕ) (accs : List Access) (vs : List Visit) → map touch_in accs ≡ map touch_of vs → map tuple_written (map (event k) accs) ≡ left_by k vs
+pub left-same : (k : ℕ) (accs : List Access) (vs : List Visit) → map touch_in accs ≡ map touch_of vs → map tuple_written (map (event k) accs) ≡ tuples_left k vs
 left-same k accs vs e = left-row k accs ∙ ap (map (tuple_at k)) e ∙ left-visits k vs
 
 -- accesses with the slots, cells and new values of a step, whose old values and times before are the run's, are the accesses of the run's row
@@ -94,14 +94,14 @@ module _ (i : Image) (input : List ℕ) (es : List Event) (table : List TableEnt
   olds-are-held = all-of (λ a. a.old ≡ value s a.cell) accs (λ a m. old-is-held 9 a m (within a m).below)
 
   -- the slots show what the state holds
-  shown : (t : Touch) → In t (map touch_in accs) → in_slot (seen accs) t.slot ≡ value s t.cell
+  shown : (t : Touch) → In t (map touch_in accs) → seen_in (seen accs) t.slot ≡ value s t.cell
   shown t m =
       let r = in-map-back touch_in t accs m in
       let b = within r.0 r.1 in
-      subst (λ (z : Touch). in_slot (seen accs) z.slot ≡ value s z.cell) (sym r.2) (slot-seen accs r.0.slot b.above b.below ∙ old-is (seen accs) 1 9 accs shaped r.0 r.1 ∙ old-is-held 9 r.0 r.1 b.below)
+      subst (λ (z : Touch). seen_in (seen accs) z.slot ≡ value s z.cell) (sym r.2) (slot-seen accs r.0.slot b.above b.below ∙ old-is (seen accs) 1 9 accs shaped r.0 r.1 ∙ old-is-held 9 r.0 r.1 b.below)
 
   pub slots-show-state : SeesTouches (seen accs) s (map touch_in accs)
-  slots-show-state = all-of (λ t. in_slot (seen accs) t.slot ≡ value s t.cell) (map touch_in accs) shown
+  slots-show-state = all-of (λ t. seen_in (seen accs) t.slot ≡ value s t.cell) (map touch_in accs) shown
 
   -- the times before are those of the last uses up to this row
   pub prevs-are-last-uses : AllByRecursion (λ a. a.prev ≡ last_use (map tuple_written (before ++ map (event k) accs)) a.cell (time_of k a.slot)) accs

@@ -14,13 +14,13 @@ use Rattle.rv_spec.specs.Elf.{Image}
 use Rattle.rv_spec.specs.Step.{State, step}
 use Rattle.rv_spec.specs.Run.{run, next_state, end_at, EndsIn}
 use Rattle.rv_spec.specs.Cells.{time_of}
-use Rattle.rv_spec.specs.Touches.{Use, Visit, visit, step_uses, touches}
+use Rattle.rv_spec.specs.Visits.{Use, Visit, visit, step_uses, visits}
 use Rattle.rv_spec.specs.Trace.{history, row, rows, access, last_use}
 use Rattle.rv_spec.specs.Record.{place_at}
-use Rattle.rv_spec.specs.Reading.{last_of}
-use Rattle.rv_spec.specs.Expected.{Expected, expected}
-use Rattle.rv_spec.specs.RowRules.{seen, same_end, ends_as, due, row_rule, row_checks, place_after}
-use Rattle.rv_spec.specs.Agreement.{IsState, GoesAs, Agrees, touch_of}
+use Rattle.rv_rules.specs.Reading.{last_of}
+use Rattle.rv_rules.specs.Expected.{Expected, expected}
+use Rattle.rv_rules.specs.RowRules.{seen, same_end, ends_as, due, row_rule, row_checks, place_after}
+use Rattle.rv_rules.specs.Agreement.{IsState, GoesAs, Agrees, touch_of}
 use Rattle.rv_order.proofs.Lemmas.{last_use-lt}
 use Rattle.rv_isa.proofs.Lemmas.{steps-agree}
 use Rattle.rv_isa.proofs.Lemmas.{run-version, step-slots-rise, all-within}
@@ -64,7 +64,7 @@ module _ (h : Header) (i : Image) (input : List ℕ) (version : i.version ≡ h.
   abbrev output : List ℕ
   output = (run i input h.steps).output
 
-  agreed : (k : ℕ) → ((due h.version (row i input k) (place_at i input k) input).touches ≡ map touch_of (touches input (run i input k)))
+  agreed : (k : ℕ) → ((due h.version (row i input k) (place_at i input k) input).touches ≡ map touch_of (visits input (run i input k)))
       × GoesAs (due h.version (row i input k) (place_at i input k) input) (run i input k) (step input (run i input k))
   agreed k =
       let s : State = run i input k in
@@ -110,12 +110,12 @@ module _ (h : Header) (i : Image) (input : List ℕ) (version : i.version ≡ h.
           (ap (λ (p : Option End). is_none p || false) none, refl)
 
   row-holds : (k : ℕ) → k < h.steps → row_rule h.version (row i input k) k (place_at i input k) (last_of h k) input output ≡ None
-  unfolding row_checks touches step_uses
+  unfolding row_checks visits step_uses
   row-holds k less =
       let s : State = run i input k in
       let e : Expected = due h.version (row i input k) (place_at i input k) input in
       let a = agreed k in
-      let vs : List Visit = touches input s in
+      let vs : List Visit = visits input s in
       let end = end-holds k less e.end (goes-end e s (step input s) a.1) in
       none-broken (row_checks h.version (row i input k) k (place_at i input k) (last_of h k) input output) (
         eq-eqb s.pc s.pc refl,

@@ -10,20 +10,20 @@ use Rattle.rv_base.specs.declared.record.Seen.{Seen}
 use Rattle.rv_base.specs.declared.record.TableEntry.{TableEntry}
 use Rattle.rv_base.specs.declared.record.Tuple.{Tuple}
 use Rattle.rv_spec.specs.Elf.{Image}
-use Rattle.rv_spec.specs.Step.{State, Turn, Next, Ends, step}
+use Rattle.rv_spec.specs.Step.{State, Transition, Next, Ends, step}
 use Rattle.rv_spec.specs.Run.{run, next_state, state_after, end_of, end_at}
 use Rattle.rv_spec.specs.Cells.{initial_value, time_of}
-use Rattle.rv_spec.specs.Touches.{step_uses, touches}
-use Rattle.rv_spec.specs.Trace.{Row, left_by, history, last_use, row, rows, access}
-use Rattle.rv_spec.specs.Lists.{Event, event, events, tuple_written}
-use Rattle.rv_spec.specs.Form.{RowFits}
-use Rattle.rv_spec.specs.Chain.{AreOrdered, IsChain}
+use Rattle.rv_spec.specs.Visits.{step_uses, visits}
+use Rattle.rv_spec.specs.Trace.{Row, tuples_left, history, last_use, row, rows, access}
+use Rattle.rv_spec.specs.Tuples.{Event, event, events, tuple_written}
+use Rattle.rv_spec.specs.Grammar.{RowFits}
+use Rattle.rv_rules.specs.Chain.{AreOrdered, IsChain}
 use Rattle.rv_spec.specs.Record.{place_at}
-use Rattle.rv_spec.specs.Reading.{last_of}
-use Rattle.rv_spec.specs.Expected.{Expected, expected}
-use Rattle.rv_spec.specs.RowRules.{seen, same_end, ends_as, due, place_after}
-use Rattle.rv_spec.specs.Agreement.{IsState, GoesAs, touch_of, HoldsLastUses}
-use Rattle.rv_spec.proofs.MultisetLaws.{left_true, right_true}
+use Rattle.rv_rules.specs.Reading.{last_of}
+use Rattle.rv_rules.specs.Expected.{Expected, expected}
+use Rattle.rv_rules.specs.RowRules.{seen, same_end, ends_as, due, place_after}
+use Rattle.rv_rules.specs.Agreement.{IsState, GoesAs, touch_of, HoldsLastUses}
+use Rattle.rv_rules.proofs.Lemmas.{left_true, right_true}
 use Rattle.rv_isa.specs.Follows.{SeesTouches}
 use Rattle.rv_sound.specs.Accepted.{place_through, RowsHold}
 use Rattle.rv_sound.proofs.RowFollows.{touch_in, RowFollows, row-follows}
@@ -36,19 +36,19 @@ use Rattle.rv_sound.proofs.Lists.{all-join, next-number, all-weaken}
 -- ---- where a step goes
 
 -- how the expected step ends, leads on, takes and puts, where it goes as the step does
-pub goes-end : (e : Expected) (s : State) (turn : Turn) → GoesAs e s turn → e.end ≡ end_of turn
+pub goes-end : (e : Expected) (s : State) (turn : Transition) → GoesAs e s turn → e.end ≡ end_of turn
 goes-end e s (Next t) h = h.0
 goes-end e s (Ends f) h = h.0
 
-pub goes-next : (e : Expected) (s : State) (turn : Turn) → GoesAs e s turn → e.next ≡ (state_after s turn).pc
+pub goes-next : (e : Expected) (s : State) (turn : Transition) → GoesAs e s turn → e.next ≡ (state_after s turn).pc
 goes-next e s (Next t) h = h.1
 goes-next e s (Ends f) h = h.1
 
-goes-took : (e : Expected) (s : State) (turn : Turn) → GoesAs e s turn → s.position + e.took ≡ (state_after s turn).position
+goes-took : (e : Expected) (s : State) (turn : Transition) → GoesAs e s turn → s.position + e.took ≡ (state_after s turn).position
 goes-took e s (Next t) h = h.2
 goes-took e s (Ends f) h = omega (arith, h.2)
 
-pub goes-put : (e : Expected) (s : State) (turn : Turn) → GoesAs e s turn → s.output ++ e.put ≡ (state_after s turn).output
+pub goes-put : (e : Expected) (s : State) (turn : Transition) → GoesAs e s turn → s.output ++ e.put ≡ (state_after s turn).output
 goes-put e s (Next t) h = h.3
 goes-put e s (Ends f) h = ap (λ (l : List ℕ). s.output ++ l) h.3 ∙ append-nil s.output
 
@@ -88,13 +88,13 @@ module _ (h : Header) (i : Image) (input output : List ℕ) (version : i.version
   -- the row of step number k, and what follows
   record IsStepRow (k : ℕ) (r : Row) : Type 0 where
     pub is : r ≡ row i input k
-    pub left : map tuple_written (map (event k) r.accesses) ≡ left_by k (touches input (run i input k))
+    pub left : map tuple_written (map (event k) r.accesses) ≡ tuples_left k (visits input (run i input k))
     pub goes : GoesAs (due h.version r (place_at i input k) input) (run i input k) (step input (run i input k))
 
   row-is-step : (k : ℕ) (r : Row) (before later : List Event) → es ≡ before ++ (map (event k) r.accesses ++ later) → map tuple_written before ≡ history i input k
       → AllByRecursion (λ e. e.time < time_of k 0) before → AllByRecursion (λ e. time_of (k + 1) 0 ≤ e.time) later
       → RowFits r → RowFollows h.version r k (place_at i input k) (last_of h k) input output → IsStepRow k r
-  unfolding touches history
+  unfolding visits history
   row-is-step k r before later split hist early late fits f =
       let s : State = run i input k in
       let v : Seen = seen r.accesses in
@@ -102,11 +102,11 @@ module _ (h : Header) (i : Image) (input output : List ℕ) (version : i.version
       let same : due h.version r (place_at i input k) input ≡ expected s.version s.pc v input s.position = λ j. expected ((sym version ∙ sym (run-version i input k)) j) (f.pc j) v input s.position in
       let shown = slots-show-state i input es table bound o c lasts k r.accesses before later split hist early late shaped in
       let follows = seen-follows input s v (states k) (subst (SeesTouches v s) (f.touches ∙ ap (λ (e : Expected). e.touches) same) shown) in
-      let made : map touch_in r.accesses ≡ map touch_of (touches input s) = f.touches ∙ ap (λ (e : Expected). e.touches) same ∙ follows.0 in
-      let left : map tuple_written (map (event k) r.accesses) ≡ left_by k (touches input s) = left-same k r.accesses (touches input s) made in
+      let made : map touch_in r.accesses ≡ map touch_of (visits input s) = f.touches ∙ ap (λ (e : Expected). e.touches) same ∙ follows.0 in
+      let left : map tuple_written (map (event k) r.accesses) ≡ tuples_left k (visits input s) = left-same k r.accesses (visits input s) made in
       let goes : GoesAs (due h.version r (place_at i input k) input) s (step input s) = subst (λ (e : Expected). GoesAs e s (step input s)) (sym same) follows.1 in
       let all : map tuple_written (before ++ map (event k) r.accesses) ≡ history i input (suc k) = map-append tuple_written before (map (event k) r.accesses) ∙ (λ j. hist j ++ left j) in
-      let accesses : r.accesses ≡ map (access (history i input (suc k)) k) (touches input s) =
+      let accesses : r.accesses ≡ map (access (history i input (suc k)) k) (visits input s) =
       accesses-same (history i input (suc k)) k s (next_state input s) (step_uses input s) r.accesses made
       (olds-are-held i input es table bound o c lasts k r.accesses before later split hist early late shaped)
       (subst (λ (ts : List Tuple). AllByRecursion (λ a. a.prev ≡ last_use ts a.cell (time_of k a.slot)) r.accesses) all (prevs-are-last-uses i input es table bound o c lasts k r.accesses before later split hist early late shaped)) in
@@ -116,7 +116,7 @@ module _ (h : Header) (i : Image) (input output : List ℕ) (version : i.version
         goes = goes;
       }
 
-  longer-history : (k : ℕ) (before here : List Event) → map tuple_written before ≡ history i input k → map tuple_written here ≡ left_by k (touches input (run i input k)) → map tuple_written (before ++ here) ≡ history i input (k + 1)
+  longer-history : (k : ℕ) (before here : List Event) → map tuple_written before ≡ history i input k → map tuple_written here ≡ tuples_left k (visits input (run i input k)) → map tuple_written (before ++ here) ≡ history i input (k + 1)
   unfolding history
   longer-history k before here p q = map-append tuple_written before here ∙ (λ j. p j ++ q j) ∙ ap (history i input) (next-number k)
 

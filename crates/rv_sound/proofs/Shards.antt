@@ -10,11 +10,11 @@ use Rattle.rv_base.specs.declared.record.Header.{Header}
 use Rattle.rv_base.specs.declared.record.Place.{Place}
 use Rattle.rv_spec.specs.Elf.{Image}
 use Rattle.rv_spec.specs.Trace.{Row, row, rows}
-use Rattle.rv_spec.specs.Lists.{events, tuple_read, tuple_written}
-use Rattle.rv_spec.specs.RowRules.{place_after}
+use Rattle.rv_spec.specs.Tuples.{events, tuple_read, tuple_written}
+use Rattle.rv_rules.specs.RowRules.{place_after}
 use Rattle.rv_spec.specs.Digest.{Lanes, digest}
 use Rattle.rv_spec.specs.Record.{Shard, shard_rows, rows_length, place_at, shard}
-use Rattle.rv_spec.specs.Form.{RowFits, ShardFits, ShardsFit}
+use Rattle.rv_spec.specs.Grammar.{RowFits, ShardFits, ShardsFit}
 use Rattle.rv_sound.specs.Accepted.{place_through, RowsHold, ShardHolds, ShardsHold}
 use Rattle.rv_sound.proofs.Lists.{all-join, length-none, rows-split, same-front}
 

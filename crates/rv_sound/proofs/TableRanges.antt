@@ -7,14 +7,15 @@ use Rattle.rv_spec.specs.Elf.{Image}
 use Rattle.rv_spec.specs.Step.{State}
 use Rattle.rv_spec.specs.Run.{run, next_state}
 use Rattle.rv_spec.specs.Cells.{time_of, is_cell}
-use Rattle.rv_spec.specs.Touches.{Use, visit, step_uses, touches}
-use Rattle.rv_spec.specs.Trace.{left_by, history, rising, last_use, left_at, last_entry, table_of, table}
-use Rattle.rv_spec.specs.Lists.{Event}
-use Rattle.rv_spec.proofs.Members.{all-of, all-in, in-map-back, in-rising, rising-rises}
-use Rattle.rv_spec.proofs.ChainCore.{In, in-map}
+use Rattle.rv_spec.specs.Visits.{Use, visit, step_uses, visits}
+use Rattle.rv_spec.specs.Trace.{tuples_left, history, rising, last_use, left_at, last_entry, table_of, table}
+use Rattle.rv_spec.specs.Tuples.{Event}
+use Rattle.rv_rules.proofs.Lemmas.{all-of, all-in, in-map-back, in-rising, rising-rises}
+use Rattle.rv_rules.specs.Membership.{In}
+use Rattle.rv_rules.proofs.Lemmas.{in-map}
 use Rattle.rv_order.proofs.Lemmas.{last_use-lt}
-use Rattle.rv_spec.specs.Form.{EntryFits, IsRising}
-use Rattle.rv_spec.specs.Chain.{AreOrdered}
+use Rattle.rv_spec.specs.Grammar.{EntryFits, IsRising}
+use Rattle.rv_rules.specs.Chain.{AreOrdered}
 use Rattle.rv_isa.specs.Ranges.{AreCells, StepFits}
 use Rattle.rv_sound.proofs.RowRanges.{HoldsWords, left-word}
 use Rattle.rv_sound.proofs.Lists.{all-join, all-map, all-weaken}
@@ -22,16 +23,16 @@ use Rattle.rv_sound.proofs.Lists.{all-join, all-map, all-weaken}
 abbrev TupleFits : ℕ → Tuple → Type 0
 TupleFits version w = IsTrue (is_cell version w.cell) × (w.cell < 2 ^ 30 + 33) × (w.value < 2 ^ 32)
 
-step-left : (version k : ℕ) (s t : State) (us : List Use) → HoldsWords s → HoldsWords t → AreCells version us → AllByRecursion (TupleFits version) (left_by k (map (visit s t) us))
+step-left : (version k : ℕ) (s t : State) (us : List Use) → HoldsWords s → HoldsWords t → AreCells version us → AllByRecursion (TupleFits version) (tuples_left k (map (visit s t) us))
 step-left version k s t [] old new h = tt
 step-left version k s t (u ∷ us) old new h = ((h.0.0, h.0.1, left-word (nat_le u.slot 5) s t u.cell old new), step-left version k s t us old new h.1)
 
 history-fits : (i : Image) (input : List ℕ) → ((k : ℕ) → StepFits i input k) → (n : ℕ) → AllByRecursion (TupleFits i.version) (history i input n)
-unfolding history touches run
+unfolding history visits run
 history-fits i input fits zero = tt
 history-fits i input fits (suc n) =
     let s : State = run i input n in
-    all-join (TupleFits i.version) (history i input n) (left_by n (touches input s)) (history-fits i input fits n)
+    all-join (TupleFits i.version) (history i input n) (tuples_left n (visits input s)) (history-fits i input fits n)
     (step-left i.version n s (next_state input s) (step_uses input s) (fits n).values (fits (suc n)).values (fits n).cells)
 
 left-fits : (version : ℕ) (ts : List Tuple) (c t : ℕ) → AllByRecursion (TupleFits version) ts → left_at ts c t < 2 ^ 32
@@ -64,7 +65,7 @@ module _ (i : Image) (input : List ℕ) (n : ℕ) (some : 0 < n) (small : n < 2 
     cell = (used-fits c m).0;
     value = left-fits i.version own c (last_use own c (time_of n 0)) (history-fits i input fits n);
     time = (
-      all-in (λ t. 0 < t.time) (table i input n) o.late (last_entry own (time_of n 0) c) (in-map (last_entry own (time_of n 0)) c (rising (map (λ w. w.cell) own)) m),
+      all-in (λ t. 0 < t.time) (table i input n) o.after_start (last_entry own (time_of n 0) c) (in-map (last_entry own (time_of n 0)) c (rising (map (λ w. w.cell) own)) m),
       omega (arith, small, last_use-lt own c (time_of n 0) (omega (arith, some))),
     );
   }

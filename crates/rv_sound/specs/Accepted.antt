@@ -5,14 +5,14 @@ use Rattle.rv_base.specs.declared.record.Header.{Header}
 use Rattle.rv_base.specs.declared.record.Place.{Place}
 use Rattle.rv_spec.specs.Elf.{image}
 use Rattle.rv_spec.specs.Trace.{Row}
-use Rattle.rv_spec.specs.Lists.{events, tuple_read, tuple_written}
+use Rattle.rv_spec.specs.Tuples.{events, tuple_read, tuple_written}
 use Rattle.rv_spec.specs.Digest.{Lanes, digest}
 use Rattle.rv_spec.specs.Record.{Shard, Parts, all_rows, reads, writes}
-use Rattle.rv_spec.specs.Form.{PartsFit, Spells}
-use Rattle.rv_spec.specs.Words.{AreBytes}
-use Rattle.rv_spec.specs.Verdict.{judge, IsCollision}
-use Rattle.rv_spec.specs.Reading.{last_of}
-use Rattle.rv_spec.specs.RowRules.{row_rule, place_after}
+use Rattle.rv_spec.specs.Grammar.{PartsFit, Spells}
+use Rattle.rv_spec.specs.Words.{u32_at, AreBytes}
+use Rattle.rv_rules.specs.Verdict.{judge}
+use Rattle.rv_rules.specs.Reading.{last_of}
+use Rattle.rv_rules.specs.RowRules.{row_rule, place_after}
 
 -- the place after some rows
 abbrev pub place_through : ℕ → List ℕ → Place → List Row → Place
@@ -38,26 +38,21 @@ abbrev pub ShardsHold : Lanes → Header → List ℕ → List ℕ → ℕ → P
 ShardsHold lanes h input output i p [] = ⊤
 ShardsHold lanes h input output i p (s ∷ ss) = ShardHolds lanes h input output (i * h.size) p s × ShardsHold lanes h input output (i + 1) (place_through h.version input p s.rows) ss
 
--- the place before the first step, by the ELF file
-abbrev pub first_place : List ℕ → Place
-first_place elf = record { pc = (image 1 elf).entry; input = 0; output = 0 }
+-- the place before the first step: the entry of the ELF file, which is that of its image in every version
+abbrev pub entry_place : List ℕ → Place
+entry_place elf = record { pc = u32_at elf 24; input = 0; output = 0 }
 
 -- The parts have a spelling, and what they state of the program, the input, the run and the digests holds.
 pub record IsAccepted (lanes : Lanes) (elf input : List ℕ) (parts : Parts) : Type 0 where
   pub fit : PartsFit parts
   pub elf_hash : parts.header.elf ≡ sha512 elf
   pub input_hash : parts.header.input ≡ sha512 input
-  pub shards : ShardsHold lanes parts.header input parts.output 0 (first_place elf) parts.shards
-  pub taken : (place_through parts.header.version input (first_place elf) (all_rows parts)).input ≡ parts.header.consumed
-  pub put : (place_through parts.header.version input (first_place elf) (all_rows parts)).output ≡ parts.header.length
+  pub shards : ShardsHold lanes parts.header input parts.output 0 (entry_place elf) parts.shards
+  pub taken : (place_through parts.header.version input (entry_place elf) (all_rows parts)).input ≡ parts.header.consumed
+  pub put : (place_through parts.header.version input (entry_place elf) (all_rows parts)).output ≡ parts.header.length
   pub balance : digest lanes (reads parts) ≡ digest lanes (writes (image parts.header.version elf) parts)
 
 -- The law of the reading, in both directions: what is judged good is the spelling of accepted parts, and of accepted parts the spelling is judged good.
 pub record ReadsAccepted (lanes : Lanes) (elf input : List ℕ) : Type 0 where
   pub accepted : (file : List ℕ) (parts : Parts) → AreBytes file → judge lanes elf input file ≡ Ok parts → Spells parts file × IsAccepted lanes elf input parts
   pub judged : (file : List ℕ) (parts : Parts) → Spells parts file → IsAccepted lanes elf input parts → judge lanes elf input file ≡ Ok parts
-
--- The law of collisions: the two lists of a collision, which aren't one multiset, have one digest.
-abbrev pub CollisionHasOneDigest : Lanes → List ℕ → List ℕ → List ℕ → Type 0
-CollisionHasOneDigest lanes elf input file =
-    AreBytes file → (c : IsCollision lanes elf input file) → digest lanes (reads c.parts) ≡ digest lanes (writes (image c.parts.header.version elf) c.parts)

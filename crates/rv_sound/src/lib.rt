@@ -7,8 +7,8 @@ ghost use Rattle.std.specs.Prelude.{ℕ, List};
 ghost use Rattle.rv_base.specs.declared.End.{End};
 ghost use Rattle.rv_spec.specs.Digest.{Lanes};
 ghost use Rattle.rv_spec.specs.Record.{Parts};
-ghost use Rattle.rv_spec.specs.Verdict.{IsSound, RecordIsAccepted};
-ghost use Rattle.rv_sound.specs.Accepted.{CollisionHasOneDigest, ReadsAccepted};
+ghost use Rattle.rv_rules.specs.Laws.{AcceptedIsRecord, RecordIsAccepted};
+ghost use Rattle.rv_sound.specs.Accepted.{ReadsAccepted};
 
 /// The verdict accepts exactly the spellings of accepted parts: what it reads good, rule by rule and
 /// from the first byte to the last, are parts that have a spelling and of which all holds that they
@@ -21,12 +21,7 @@ pub fn reading()
 /// version and shard size, in its header's steps and with its end; or the tuples that it reads and
 /// those that it writes are different multisets of one digest. Nothing is asked of the lanes.
 pub fn soundness()
-    ensures { (lanes : Lanes) (elf input file : List ℕ) (parts : Parts) → IsSound lanes elf input file parts }
-{}
-
-/// What a collision is: two lists of tuples that have one digest, though they aren't one multiset.
-pub fn collisions()
-    ensures { (lanes : Lanes) (elf input file : List ℕ) → CollisionHasOneDigest lanes elf input file }
+    ensures { (lanes : Lanes) (elf input file : List ℕ) (parts : Parts) → AcceptedIsRecord lanes elf input file parts }
 {}
 
 /// The record of a run that ends, within the limits of a file, is accepted with its steps, shards and

@@ -1,8 +1,9 @@
 -- The record file of a run (this project's own): its parts, their bytes, and the record that is due. The hashes are SHA-512 of FIPS 180-4.
-use Rattle.std.specs.Prelude.{◌≡◌, ℕ, ◌+◌, ◌-◌, ◌*◌, ◌≤◌, min, List, [], ◌∷◌, ◌++◌, length, map, None}
+use Rattle.std.specs.Prelude.{ℕ, ◌+◌, ◌-◌, ◌*◌, min, List, [], ◌∷◌, ◌++◌, length, map}
 use Rattle.std.specs.List.{flat_map, range_with_len}
-use Rattle.std.specs.Int.{w32, w64, to_le_bytes, div_ceil, IsInRange}
+use Rattle.std.specs.Int.{w32, w64, to_le_bytes, div_ceil}
 use Rattle.sha2.specs.Sha512.{sha512}
+use Rattle.rv_base.specs.declared.layout.TheConstants.{ROW_BYTES, ACCESS_BYTES}
 use Rattle.rv_base.specs.declared.record.Access.{Access}
 use Rattle.rv_base.specs.declared.record.End.{End}
 use Rattle.rv_base.specs.declared.record.Header.{Header}
@@ -10,12 +11,12 @@ use Rattle.rv_base.specs.declared.record.Place.{Place}
 use Rattle.rv_base.specs.declared.record.ShardHead.{ShardHead}
 use Rattle.rv_base.specs.declared.record.TableEntry.{TableEntry}
 use Rattle.rv_base.specs.declared.record.Tuple.{Tuple}
-use Rattle.rv_spec.specs.Elf.{Image, image, first_fault}
-use Rattle.rv_spec.specs.Run.{run, EndsIn}
+use Rattle.rv_spec.specs.Elf.{Image, image}
+use Rattle.rv_spec.specs.Run.{run}
 use Rattle.rv_spec.specs.Cells.{initial_value}
 use Rattle.rv_spec.specs.Trace.{Row, rows, table}
-use Rattle.rv_spec.specs.Lists.{Event, events, tuple_read, tuple_written, all_read, all_written}
-use Rattle.rv_spec.specs.Digest.{Lanes, digest, digest_bytes}
+use Rattle.rv_spec.specs.Tuples.{Event, events, tuple_read, tuple_written, all_read, all_written}
+use Rattle.rv_spec.specs.Digest.{Lanes, digest, set_digest_bytes}
 
 -- A shard: its head, its rows, and the digests of the tuples that these read and write.
 pub record Shard : Type 0 where
@@ -54,7 +55,7 @@ unfoldable pub row_bytes : Row → List ℕ
 row_bytes r = to_le_bytes w32 r.pc ++ to_le_bytes w32 r.next ++ length r.accesses ∷ flat_map access_bytes r.accesses
 
 unfoldable pub shard_bytes : Shard → List ℕ
-shard_bytes s = head_bytes s.head ++ flat_map row_bytes s.rows ++ digest_bytes s.reads ++ digest_bytes s.writes
+shard_bytes s = head_bytes s.head ++ flat_map row_bytes s.rows ++ set_digest_bytes s.reads ++ set_digest_bytes s.writes
 
 unfoldable pub entry_bytes : TableEntry → List ℕ
 entry_bytes e = to_le_bytes w32 e.cell ++ to_le_bytes w32 e.value ++ to_le_bytes w64 e.time
@@ -93,7 +94,7 @@ place_at i input k =
     record { pc = s.pc; input = s.position; output = length s.output }
 
 abbrev pub row_length : Row → ℕ
-row_length r = 9 + 21 * length r.accesses
+row_length r = ROW_BYTES + ACCESS_BYTES * length r.accesses
 
 abbrev pub rows_length : List Row → ℕ
 rows_length [] = 0
@@ -144,17 +145,3 @@ record_parts lanes version elf input size n e =
 -- the record file
 abbrev pub record_file : Lanes → ℕ → List ℕ → List ℕ → ℕ → ℕ → End → List ℕ
 record_file lanes version elf input size n e = file_bytes (record_parts lanes version elf input size n e)
-
--- The program has an image, its run ends in n steps with the end e, and the record at this shard size is within the limits.
-pub record HasRecord (version : ℕ) (elf input : List ℕ) (size n : ℕ) (e : End) : Type 0 where
-  pub known : IsInRange 1 2 version
-  pub loads : first_fault elf ≡ None
-  pub ends : EndsIn (image version elf) input n e
-  pub size_within : IsInRange 1 65536 size
-  pub shards_within : div_ceil n size ≤ 65536
-  pub output_within : length (run (image version elf) input n).output ≤ 67108864
-
--- The file is the record, at this shard size, of the run of the program on the input, which ends in n steps with the end e.
-pub record IsRecord (lanes : Lanes) (version : ℕ) (elf input : List ℕ) (size n : ℕ) (e : End) (file : List ℕ) : Type 0 where
-  pub has : HasRecord version elf input size n e
-  pub is : file ≡ record_file lanes version elf input size n e

@@ -2,14 +2,14 @@
 use Rattle.std.specs.Prelude.{◌≡◌, ℕ, zero, suc, ◌-◌, ◌<◌, List, Option, Some, None}
 use Rattle.rv_base.specs.declared.record.End.{End}
 use Rattle.rv_spec.specs.Elf.{Image}
-use Rattle.rv_spec.specs.Step.{State, Turn, Next, Ends, start, step}
+use Rattle.rv_spec.specs.Step.{State, Transition, Next, Ends, start, step}
 
--- the state that a turn leads to, where one that ends the run leaves the state as it was
-abbrev pub state_after : State → Turn → State
+-- the state that a transition leads to, where one that ends the run leaves the state as it was
+abbrev pub state_after : State → Transition → State
 state_after s (Next t) = t
 state_after s (Ends e) = s
 
-abbrev pub end_of : Turn → Option End
+abbrev pub end_of : Transition → Option End
 end_of (Next t) = None
 end_of (Ends e) = Some e
 

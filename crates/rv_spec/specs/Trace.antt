@@ -1,4 +1,4 @@
--- The trace of a run: a row for each step, with the time of the use before each access, and the table of what its cells hold at the end. After Blum et al. 1991: an access knows when its cell was used last.
+-- The trace of a run: a row for each step, in which each access knows when its cell was used last (after Blum et al. 1991), and the table of what the cells hold at the end. Rows and table are this project's own.
 use Rattle.std.specs.Prelude.{ℕ, zero, suc, max, ◌&&◌, List, [], ◌∷◌, ◌++◌, map, filter, fold, find, option_map, unwrap_or, nat_lt, ◌==◌, if◌then◌else◌}
 use Rattle.std.specs.List.{range_with_len}
 use Rattle.rv_base.specs.declared.record.Access.{Access}
@@ -7,7 +7,7 @@ use Rattle.rv_base.specs.declared.record.Tuple.{Tuple}
 use Rattle.rv_spec.specs.Elf.{Image}
 use Rattle.rv_spec.specs.Run.{run, next_state}
 use Rattle.rv_spec.specs.Cells.{time_of}
-use Rattle.rv_spec.specs.Touches.{Visit, touches}
+use Rattle.rv_spec.specs.Visits.{Visit, visits}
 
 -- A row of the trace: the place of the instruction, the place of the next one, and the accesses.
 pub record Row : Type 0 where
@@ -16,13 +16,13 @@ pub record Row : Type 0 where
   pub accesses : List Access
 
 -- what step number k leaves in the cells that it uses
-abbrev pub left_by : ℕ → List Visit → List Tuple
-left_by k vs = map (λ v. record { cell = v.cell; value = v.new; time = time_of k v.slot }) vs
+abbrev pub tuples_left : ℕ → List Visit → List Tuple
+tuples_left k vs = map (λ v. record { cell = v.cell; value = v.new; time = time_of k v.slot }) vs
 
 -- all that the first n steps leave in cells, in order
 unfoldable pub history : Image → List ℕ → ℕ → List Tuple
 history i input zero = []
-history i input (suc n) = history i input n ++ left_by n (touches input (run i input n))
+history i input (suc n) = history i input n ++ tuples_left n (visits input (run i input n))
 
 -- the greatest of some numbers, or 0
 abbrev pub greatest : List ℕ → ℕ
@@ -43,16 +43,12 @@ row i input k =
     record {
       pc = s.pc;
       next = (next_state input s).pc;
-      accesses = map (access (history i input (suc k)) k) (touches input s);
+      accesses = map (access (history i input (suc k)) k) (visits input s);
     }
 
 -- n rows from row k on
 abbrev pub rows : Image → List ℕ → ℕ → ℕ → List Row
 rows i input k n = map (row i input) (range_with_len k n)
-
--- the trace of the first n steps
-abbrev pub trace : Image → List ℕ → ℕ → List Row
-trace i input n = rows i input 0 n
 
 -- the numbers in rising order, each once
 abbrev pub insert_rising : ℕ → List ℕ → List ℕ
@@ -73,7 +69,7 @@ last_entry ts time cell =
     let last = last_use ts cell time in
     record { cell = cell; value = left_at ts cell last; time = last }
 
--- each cell that is used before a time, rising, with its last value and time
+-- the cells of all tuples, rising, each with what its last use before a time left, and when
 unfoldable pub table_of : List Tuple → ℕ → List TableEntry
 table_of ts time = map (last_entry ts time) (rising (map (λ t. t.cell) ts))
 

@@ -7,7 +7,7 @@ use Rattle.std.proofs.lemmas.List.{map-append}
 use Rattle.rv_book.specs.declared.entry.Deposited.{Deposited}
 use Rattle.rv_book.specs.declared.task.Piece.{Piece}
 use Rattle.rv_book.specs.Journal.{BookState, IsDeposit, entry, indices, is_entered, with_entry}
-use Rattle.rv_book.proofs.Laws.{enters_new, range-snoc}
+use Rattle.rv_book.proofs.Lemmas.{enters_new, range-snoc}
 
 abbrev alone : List Piece → ℕ → BookState
 alone ps i = record { pieces = ps; journal = map (entry 0) (range_with_len 0 i) }

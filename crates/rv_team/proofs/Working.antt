@@ -4,7 +4,7 @@ use Rattle.std.specs.Prelude.{slice_index_or, ◌==◌}
 use Rattle.std.proofs.lemmas.Bool.Decides.{nat_tests}
 use Rattle.std.proofs.Math.Bool.{or-false, or-true}
 use Rattle.std.proofs.lemmas.List.Folds.{list_any-append}
-use Rattle.rv_spec.specs.Board.{is_in}
+use Rattle.rv_book.specs.Board.{is_in}
 use Rattle.std.proofs.Common.{length-append}
 use Rattle.rv_claim.specs.Closing.{is_settled}
 use Rattle.rv_claim.specs.declared.pass.Pass.{Pass}

@@ -4,7 +4,7 @@ use Rattle.std.proofs.Math.Seq.{take-length}
 use Rattle.std.proofs.lemmas.Bool.{eqb-false, false≢true}
 use Rattle.rv_host.specs.Counts.{Rose}
 use Rattle.rv_host.specs.Files.{Files, file, with_file}
-use Rattle.rv_host.proofs.FileLaws.{file-with_file}
+use Rattle.rv_host.proofs.Lemmas.{file-with_file}
 use Rattle.rv_tool.specs.CommandLine.{CommandWords, make, run, MakeWords, target_of}
 use Rattle.rv_tool.specs.Faults.{status_of, line_of}
 use Rattle.rv_tool.specs.Outcome.{Outcome, refuses, refusal, outcome_of}

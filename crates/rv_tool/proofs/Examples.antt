@@ -1,10 +1,10 @@
 -- Outcomes of worked command lines: the record of a program of three steps, a budget that is too small, a misspelled number, and a program that writes.
 use Rattle.std.proofs.Common.{◌≡◌, ℕ, List, [], ◌∷◌, ◌++◌, codes, refl}
 use Rattle.rv_spec.specs.Digest.{sha_lanes}
-use Rattle.rv_spec.specs.Elf.{elf_file}
+use Rattle.rv_elf.specs.ElfFile.{elf_file}
 use Rattle.rv_spec.specs.Record.{record_file}
 use Rattle.rv_spec.proofs.Computes.{computes}
-use Rattle.rv_spec.proofs.RecordOne.{elf}
+use Rattle.rv_spec.proofs.RecordExample.{elf}
 use Rattle.rv_host.specs.Files.{Files, with_file}
 use Rattle.rv_tool.specs.Lines.{made_line, ran_line}
 use Rattle.rv_tool.specs.Outcome.{outcome, refusal, refuses, ends_within}
@@ -18,11 +18,11 @@ make_within budget = codes "make" ∷ codes "elf" ∷ codes "input" ∷ codes "r
 
 made : outcome (make_within (codes "3")) (shelf elf)
     ≡ record { status = 0; line = made_line 3 1 (record { kind = 0; code = 42 }) 719; files = with_file (shelf elf) (codes "record") (record_file sha_lanes 1 elf [] 3 3 (record { kind = 0; code = 42 })) }
-unfolding computes outcome refusal ends_within
+unfolding computes elf_file outcome refusal ends_within
 made = refl
 
 over_budget : outcome (make_within (codes "2")) (shelf elf) ≡ refuses (shelf elf) (Budget 2)
-unfolding computes outcome refusal ends_within
+unfolding computes elf_file outcome refusal ends_within
 over_budget = refl
 
 misspelled : outcome (make_within (codes "03")) (shelf elf) ≡ refuses (shelf elf) Words
@@ -41,5 +41,5 @@ greeter = elf_file 0x10000 (record { address = 0x10000; bytes = greeting; size =
 
 ran : outcome (codes "run" ∷ codes "elf" ∷ codes "input" ∷ codes "output" ∷ codes "100" ∷ []) (shelf greeter)
     ≡ record { status = 0; line = ran_line 8 (record { kind = 0; code = 3 }) 3; files = with_file (shelf greeter) (codes "output") (codes "hi" ++ 10 ∷ []) }
-unfolding computes outcome refusal ends_within
+unfolding computes elf_file outcome refusal ends_within
 ran = refl

@@ -3,7 +3,7 @@ use Rattle.std.proofs.Common.{◌≡◌, ℕ, ◌<◌, ◌≤◌, inl, inr, List
 use Rattle.std.proofs.lemmas.Bool.{lt-ltb, le-ltb}
 use Rattle.rv_host.specs.Files.{Files, file}
 use Rattle.rv_tool.specs.Outcome.{refusal, refuses}
-use Rattle.rv_tool.specs.Shelves.{Shelved, Same, Leaves}
+use Rattle.rv_tool.specs.Shelves.{Shelved, IsUnchanged, Leaves}
 use Rattle.rv_tool.specs.FileCalls.{ReadsWithin, Loads}
 use Rattle.rv_tool.specs.declared.faults.Fault.{Fault}
 use Rattle.rv_tool.specs.declared.faults.Limited.TheVariants as limited
@@ -21,10 +21,10 @@ input_above told elf input within above = rw (le-ltb 67108864 (length (file told
 
 -- ---- one shelf after another
 
-unchanged : (before after : Shelved) → Same before after → Leaves before after
+unchanged : (before after : Shelved) → IsUnchanged before after → Leaves before after
 unchanged before after same = record { files = same.files; writes = same.writes }
 
-left : (before middle after : Shelved) → Same before middle → Leaves middle after → Leaves before after
+left : (before middle after : Shelved) → IsUnchanged before middle → Leaves middle after → Leaves before after
 left before middle after same leaves = record { files = leaves.files ∙ same.files; writes = λ name. leaves.writes name ∙ same.writes name }
 
 each_told : (o : Option Files) (P : Files → Type 0) → ((told : Files) → o ≡ Some told → P told) → IfSome o P

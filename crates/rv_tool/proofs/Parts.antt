@@ -7,7 +7,7 @@ use Rattle.std.specs.List.{flat_map}
 use Rattle.std.specs.Option.{option_map}
 use Rattle.rv_host.specs.Files.{Files, with_added, with_file}
 use Rattle.rv_host.specs.Transfers.{AddsPrefix}
-use Rattle.rv_host.proofs.FileLaws.{with_added-with_file}
+use Rattle.rv_host.proofs.Lemmas.{with_added-with_file}
 use Rattle.rv_tool.specs.Promised.{IsTorn}
 
 -- the bytes of the first parts

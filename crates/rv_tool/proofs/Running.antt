@@ -10,11 +10,11 @@ use Rattle.rv_elf.specs.Faults.{number_of}
 use Rattle.rv_elf.specs.declared.fault.ElfFault.{ElfFault}
 use Rattle.rv_host.specs.Counts.{Rose}
 use Rattle.rv_host.specs.Files.{Files, file, with_file}
-use Rattle.rv_host.proofs.FileLaws.{file-with_file}
+use Rattle.rv_host.proofs.Lemmas.{file-with_file}
 use Rattle.rv_tool.specs.CommandLine.{CommandWords, MakeWords, RunWords, make, run, elf_of, input_of, target_of, is_teamwork}
 use Rattle.rv_tool.specs.Lines.{made_line, ran_line, elf_line}
 use Rattle.rv_tool.specs.Outcome.{Outcome, refuses, refusal, outcome_of, earlier, ends_within, ran}
-use Rattle.rv_tool.specs.Shelves.{Shelved, Leaves, Same}
+use Rattle.rv_tool.specs.Shelves.{Shelved, Leaves, IsUnchanged}
 use Rattle.rv_tool.specs.Promised.{IsOutcome, IsMade, IsMadeUnless, IsTorn}
 use Rattle.rv_tool.specs.Performance.{Performs, Succeeds}
 use Rattle.rv_tool.specs.FileCalls.{Loads, Writes}
@@ -70,7 +70,7 @@ refused_outcome : (files : Files) (c : CommandWords) (o : Outcome) → is_teamwo
 refused_outcome files (make w) o alone is = subst (λ b. IsMadeUnless b (refusal files w.elf w.input) files w o) (sym alone) (subst (λ r. IsMadeUnless false r files w o) (sym is) refl)
 refused_outcome files (run w) o alone is = sym (ap (λ r. unwrap_or r (ran files w (image w.version (file files w.elf)) (file files w.input) (ends_within (image w.version (file files w.elf)) (file files w.input) w.budget))) is)
 
-left : {s s' : Shelved} → Same s s' → Leaves s s'
+left : {s s' : Shelved} → IsUnchanged s s' → Leaves s s'
 left h = record { files = h.files; writes = h.writes }
 
 pub image_refused : (c : CommandWords) (s s' : Shelved) (l : Loaded) (f : Fault) → is_teamwork (Some c) ≡ false → Loads (elf_of c) (input_of c) s s' (Ok l)
@@ -116,7 +116,7 @@ due w s s' l steps e output h faultless r files told =
 abbrev success : Files → CommandWords → List ℕ → List ℕ → Outcome
 success files c line bytes = record { status = 0; line = line; files = with_file files (target_of c) bytes }
 
-pub succeeds : (c : CommandWords) (s s' s'' : Shelved) (line bytes : List ℕ) → Same s s' → ((files : Files) → s.files ≡ Some files → IsOutcome files (Some c) (success files c line bytes)) → Writes (target_of c) bytes s' s'' (Ok tt) → Succeeds c s s'' line
+pub succeeds : (c : CommandWords) (s s' s'' : Shelved) (line bytes : List ℕ) → IsUnchanged s s' → ((files : Files) → s.files ≡ Some files → IsOutcome files (Some c) (success files c line bytes)) → Writes (target_of c) bytes s' s'' (Ok tt) → Succeeds c s s'' line
 succeeds c s s' s'' line bytes same is wrote = record {
   writes = λ name. wrote.0 name ∙ same.writes name;
   told = λ files told. (
@@ -129,7 +129,7 @@ succeeds c s s' s'' line bytes same is wrote = record {
   );
 }
 
-pub breaks : (c : CommandWords) (s s' s'' : Shelved) (line bytes : List ℕ) (f : Fault) → Same s s' → ((files : Files) → s.files ≡ Some files → IsOutcome files (Some c) (success files c line bytes)) → Writes (target_of c) bytes s' s'' (Err f) → Performs c s s'' (Err f)
+pub breaks : (c : CommandWords) (s s' s'' : Shelved) (line bytes : List ℕ) (f : Fault) → IsUnchanged s s' → ((files : Files) → s.files ≡ Some files → IsOutcome files (Some c) (success files c line bytes)) → Writes (target_of c) bytes s' s'' (Err f) → Performs c s s'' (Err f)
 breaks c s s' s'' line bytes f same is wrote =
     subst (λ x. Performs c s s'' (Err x)) (sym wrote.0) (record {
       failed = subst (λ n. Rose n (s''.write_faults (target_of c))) (same.writes (target_of c)) wrote.1;

@@ -1,4 +1,5 @@
 -- The words of a command line, and the command that they spell (this project's own).
+use Rattle.rv_base.specs.declared.limits.TheConstants.{BUDGET_LIMIT, SHARD_SIZE_LIMIT, WORKERS_LIMIT}
 use Rattle.std.specs.Prelude.{ℕ, ◌+◌, ◌*◌, ◌-◌, Bool, not, ◌&&◌, ◌||◌, List, [], ◌∷◌, length, fold, Option, Some, None, nat_lt, false, ◌==◌, bytes_eq, codes, slice_index, if◌then◌else◌}
 use Rattle.std.specs.List.{list_all}
 use Rattle.std.specs.Int.{is_in_range}
@@ -51,7 +52,7 @@ make_words elf input target _ _ _ = None
 
 abbrev pub make_of : List (List ℕ) → Option CommandWords
 make_of (elf ∷ input ∷ target ∷ workers ∷ shard ∷ budget ∷ []) =
-    make_words elf input target (number 1 64 workers) (number 1 65536 shard) (number 1 8388608 budget)
+    make_words elf input target (number 1 WORKERS_LIMIT workers) (number 1 SHARD_SIZE_LIMIT shard) (number 1 BUDGET_LIMIT budget)
 make_of _ = None
 
 abbrev pub run_words : ℕ → List ℕ → List ℕ → List ℕ → Option ℕ → Option CommandWords
@@ -60,7 +61,7 @@ run_words version elf input target (Some budget) =
 run_words version elf input target None = None
 
 abbrev pub run_of : ℕ → List (List ℕ) → Option CommandWords
-run_of version (elf ∷ input ∷ target ∷ budget ∷ []) = run_words version elf input target (number 1 8388608 budget)
+run_of version (elf ∷ input ∷ target ∷ budget ∷ []) = run_words version elf input target (number 1 BUDGET_LIMIT budget)
 run_of version _ = None
 
 -- the command that the words spell, if they spell one

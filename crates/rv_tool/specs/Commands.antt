@@ -1,6 +1,7 @@
 -- The commands of the program, and the words that spell them.
 use Rattle.std.specs.Prelude.{◌≡◌, Option, Some, None, MatchOption}
 use Rattle.std.specs.Int.{IsInRange}
+use Rattle.rv_base.specs.declared.limits.TheConstants.{BUDGET_LIMIT, SHARD_SIZE_LIMIT, WORKERS_LIMIT}
 use Rattle.rv_tool.specs.CommandLine.{CommandWords, make, run}
 use Rattle.rv_tool.specs.declared.commands.Command.{Command}
 use Rattle.rv_tool.specs.declared.commands.Command.TheVariants.{Make, Run}
@@ -16,5 +17,5 @@ IsCommand spelled c = MatchOption c (spelled ≡ None) (λ c. spelled ≡ Some (
 
 -- the numbers of a command are in their ranges
 abbrev pub HasRanges : Command → Type 0
-HasRanges (Make m) = IsInRange 1 64 m.workers × IsInRange 1 65536 m.shard × IsInRange 1 8388608 m.budget
-HasRanges (Run r) = IsInRange 1 2 r.version × IsInRange 1 8388608 r.budget
+HasRanges (Make m) = IsInRange 1 WORKERS_LIMIT m.workers × IsInRange 1 SHARD_SIZE_LIMIT m.shard × IsInRange 1 BUDGET_LIMIT m.budget
+HasRanges (Run r) = IsInRange 1 2 r.version × IsInRange 1 BUDGET_LIMIT r.budget

@@ -2,10 +2,11 @@
 use Rattle.std.specs.Prelude.{◌≡◌, ℕ, ◌+◌, ◌<◌, ◌≤◌, List, length, take, Vec, vec_len, Some, Result, Ok, Err}
 use Rattle.std.specs.declared.alloc.Global.{Global}
 use Rattle.std.specs.Option.{option_map}
+use Rattle.rv_base.specs.declared.limits.TheConstants.{ELF_LIMIT, INPUT_LIMIT}
 use Rattle.rv_host.specs.Counts.{Rose}
 use Rattle.rv_host.specs.Files.{Files, file, with_file}
 use Rattle.rv_tool.specs.Outcome.{refuses, refusal}
-use Rattle.rv_tool.specs.Shelves.{Shelved, Leaves, Same}
+use Rattle.rv_tool.specs.Shelves.{Shelved, Leaves, IsUnchanged}
 use Rattle.rv_tool.specs.Promised.{ReadFailedOf, IsTorn}
 use Rattle.rv_tool.specs.declared.faults.Fault.{Fault}
 use Rattle.rv_tool.specs.declared.faults.Limited.{Limited}
@@ -15,7 +16,7 @@ use Rattle.rv_tool.specs.declared.faults.Fault.TheVariants.{Read, Write, Memory,
 -- A file is read up to one byte past a limit.
 abbrev pub ReadsUpTo : List ℕ → ℕ → Shelved → Shelved → Result (Vec ℕ Global) Fault → Type 0
 ReadsUpTo name limit before after (Ok bytes) =
-    Same before after × (vec_len bytes ≤ limit + 1) × ((told : Files) → before.files ≡ Some told → bytes.items ≡ take (limit + 1) (file told name))
+    IsUnchanged before after × (vec_len bytes ≤ limit + 1) × ((told : Files) → before.files ≡ Some told → bytes.items ≡ take (limit + 1) (file told name))
 ReadsUpTo name limit before after (Err Read) = Leaves before after × Rose (before.read_faults name) (after.read_faults name)
 ReadsUpTo name limit before after (Err Memory) = Leaves before after
 ReadsUpTo name limit before after (Err _) = ⊥
@@ -23,17 +24,17 @@ ReadsUpTo name limit before after (Err _) = ⊥
 -- A file is read whole, where it is within a limit.
 abbrev pub ReadsWithin : List ℕ → ℕ → Limited → Shelved → Shelved → Result (List ℕ) Fault → Type 0
 ReadsWithin name limit what before after (Ok bytes) =
-    Same before after × (length bytes ≤ limit) × ((told : Files) → before.files ≡ Some told → bytes ≡ file told name)
+    IsUnchanged before after × (length bytes ≤ limit) × ((told : Files) → before.files ≡ Some told → bytes ≡ file told name)
 ReadsWithin name limit what before after (Err Read) = Leaves before after × Rose (before.read_faults name) (after.read_faults name)
 ReadsWithin name limit what before after (Err Memory) = Leaves before after
 ReadsWithin name limit what before after (Err (Limit over)) =
-    Same before after × (over ≡ what) × ((told : Files) → before.files ≡ Some told → limit < length (file told name))
+    IsUnchanged before after × (over ≡ what) × ((told : Files) → before.files ≡ Some told → limit < length (file told name))
 ReadsWithin name limit what before after (Err _) = ⊥
 
 -- A program and its input are read whole, or refused.
 abbrev pub Loads : List ℕ → List ℕ → Shelved → Shelved → Result Loaded Fault → Type 0
 Loads elf input before after (Ok loaded) =
-    Same before after × (length loaded.elf ≤ 67108864) × (length loaded.input ≤ 16777216)
+    IsUnchanged before after × (length loaded.elf ≤ ELF_LIMIT) × (length loaded.input ≤ INPUT_LIMIT)
     × ((told : Files) → before.files ≡ Some told → (loaded.elf ≡ file told elf) × (loaded.input ≡ file told input))
 Loads elf input before after (Err Read) = Leaves before after × ReadFailedOf elf input before after
 Loads elf input before after (Err Memory) = Leaves before after

@@ -2,6 +2,7 @@
 use Rattle.std.specs.Prelude.{ℕ, zero, suc, List, length, Option, Some, None, nat_lt, codes, unwrap_or, if◌then◌else◌}
 use Rattle.std.specs.Option.{option_map}
 use Rattle.std.specs.Int.{div_ceil}
+use Rattle.rv_base.specs.declared.limits.TheConstants.{ELF_LIMIT, INPUT_LIMIT, SHARDS_LIMIT}
 use Rattle.rv_base.specs.declared.record.End.{End}
 use Rattle.rv_spec.specs.Elf.{Image, image, first_fault}
 use Rattle.rv_spec.specs.Run.{run as run_of, end_at}
@@ -30,8 +31,8 @@ refuses files fault = record { status = status_of fault; line = line_of fault; f
 -- the refusals before a program is run: a file above its limit, or a fault of the ELF file
 unfoldable pub refusal : Files → List ℕ → List ℕ → Option Outcome
 refusal files elf input =
-    if nat_lt 67108864 (length (file files elf)) then Some (refuses files (Limit limited.Elf))
-    else (if nat_lt 16777216 (length (file files input)) then Some (refuses files (Limit limited.Input))
+    if nat_lt ELF_LIMIT (length (file files elf)) then Some (refuses files (Limit limited.Elf))
+    else (if nat_lt INPUT_LIMIT (length (file files input)) then Some (refuses files (Limit limited.Input))
     else option_map (λ number. record { status = 3; line = elf_line number; files = files }) (first_fault (file files elf)))
 
 -- ---- the run
@@ -60,7 +61,7 @@ made files w None = refuses files (Budget w.budget)
 made files w (Some ended) =
     let shards = div_ceil ended.0 w.shard in
     let bytes = record_file sha_lanes 1 (file files w.elf) (file files w.input) w.shard ended.0 ended.1 in
-    if nat_lt 65536 shards then record { status = 8; line = limit_line (codes "shards"); files = files }
+    if nat_lt SHARDS_LIMIT shards then record { status = 8; line = limit_line (codes "shards"); files = files }
     else record { status = 0; line = made_line ended.0 shards ended.1 (length bytes); files = with_file files w.target bytes }
 
 -- ---- all commands

@@ -1,5 +1,6 @@
 -- The outcomes that the program promises today, and what a call that failed may have to do with its answer.
 use Rattle.std.specs.Prelude.{◌≡◌, ◌⊎◌, ℕ, Bool, true, false, ◌≤◌, nat_lt, List, length, take, Option, Some, None, IfSome}
+use Rattle.rv_base.specs.declared.limits.TheConstants.{ELF_LIMIT}
 use Rattle.rv_base.specs.declared.record.End.{End}
 use Rattle.rv_host.specs.Counts.{Rose}
 use Rattle.rv_host.specs.Files.{Files, file, with_file}
@@ -34,7 +35,7 @@ IsOutcome files c o = o ≡ outcome_of files c
 abbrev pub ReadFailedOf : List ℕ → List ℕ → Shelved → Shelved → Type 0
 ReadFailedOf elf input before after =
     Rose (before.read_faults elf) (after.read_faults elf)
-    ⊎ (IfSome before.files (λ files. length (file files elf) ≤ 67108864) × Rose (before.read_faults input) (after.read_faults input))
+    ⊎ (IfSome before.files (λ files. length (file files elf) ≤ ELF_LIMIT) × Rose (before.read_faults input) (after.read_faults input))
 
 abbrev pub ReadFailed : Option CommandWords → Shelved → Shelved → Type 0
 ReadFailed None before after = ⊥

@@ -17,7 +17,7 @@ pub record Leaves (before after : Shelved) : Type 0 where
   pub writes : (name : List ℕ) → after.write_faults name ≡ before.write_faults name
 
 -- files and counts are as they were
-pub record Same (before after : Shelved) : Type 0 where
+pub record IsUnchanged (before after : Shelved) : Type 0 where
   pub files : after.files ≡ before.files
   pub reads : (name : List ℕ) → after.read_faults name ≡ before.read_faults name
   pub writes : (name : List ℕ) → after.write_faults name ≡ before.write_faults name

@@ -6,6 +6,7 @@ ghost use Rattle.rv_tool.specs.Commands.{HasRanges, IsCommand};
 ghost use Rattle.rv_tool.specs.CommandLine.{command, make_of, run_of};
 
 use crate::numbers::number;
+use rv_base::limits::{BUDGET_LIMIT, SHARD_SIZE_LIMIT, WORKERS_LIMIT};
 
 /// A command with its numbers read. File names are as they were given.
 #[derive(Clone, Copy, Debug)]
@@ -63,9 +64,9 @@ fn parse_make(arguments: &[String]) -> Option<Command<'_>>
     let [elf, input, record, workers, shard, budget] = arguments else {
         return None;
     };
-    let workers = number(workers.as_str(), 1, 64)?;
-    let shard = number(shard.as_str(), 1, 65_536)?;
-    let budget = number(budget.as_str(), 1, 8_388_608)?;
+    let workers = number(workers.as_str(), 1, WORKERS_LIMIT)?;
+    let shard = number(shard.as_str(), 1, SHARD_SIZE_LIMIT)?;
+    let budget = number(budget.as_str(), 1, BUDGET_LIMIT)?;
     Some(Command::Make(Make {
         elf: elf.as_str(),
         input: input.as_str(),
@@ -84,7 +85,7 @@ fn parse_run(version: u8, arguments: &[String]) -> Option<Command<'_>>
     let [elf, input, output, budget] = arguments else {
         return None;
     };
-    let budget = number(budget.as_str(), 1, 8_388_608)?;
+    let budget = number(budget.as_str(), 1, BUDGET_LIMIT)?;
     Some(Command::Run(Run {
         version,
         elf: elf.as_str(),

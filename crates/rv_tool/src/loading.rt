@@ -11,15 +11,10 @@ ghost use Rattle.rv_tool.specs.declared.faults.Fault.TheVariants as fault;
 
 use crate::faults::{Fault, Limited};
 use rv_base::Bytes;
+use rv_base::limits::{ELF_LIMIT, INPUT_LIMIT};
 use rv_elf::Image;
 use rv_host::Shelf;
 use std::alloc::Global;
-
-/// The most bytes of an ELF file.
-const ELF_LIMIT: usize = 67_108_864;
-
-/// The most bytes of an input.
-const INPUT_LIMIT: usize = 16_777_216;
 
 /// The most bytes that one read asks for.
 const PIECE: usize = 65_536;

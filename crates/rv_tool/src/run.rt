@@ -8,7 +8,7 @@ ghost use Rattle.rv_tool.specs.Lines.{ran_line as ran_line_of};
 ghost use Rattle.rv_tool.specs.declared.commands.Command.TheVariants as command;
 ghost use Rattle.std.specs.Int.{IsInRange};
 ghost use Rattle.rv_spec.specs.Run.{GoesOn};
-ghost use Rattle.rv_isa.specs.Machine.{IsRan};
+ghost use Rattle.rv_isa.specs.Machine.{IsRunOf};
 ghost use Rattle.rv_isa.specs.declared.machine.RunStop.TheVariants as stops;
 
 use crate::commands::Run;
@@ -45,7 +45,7 @@ pub fn run<S: Shelf>(alloc: Global, words: &Run<'_>, shelf: &mut S) -> Result<Te
 /// Runs a program on an input. Budget comes exactly where the run doesn't end within so many steps.
 fn run_image(alloc: Global, image: &Image<'_>, input: &[u8], budget: u32) -> Result<Ran, RunStop>
     requires { IsInRange 1 8388608 budget }
-    ensures ok { IfOk result (IsRan image.now input.now budget) }
+    ensures ok { IfOk result (IsRunOf image.now input.now budget) }
     ensures err { IfErr result (λ stop. stop ≡ stops.Budget → GoesOn image.now input.now budget) }
 {
     Machine::start(alloc, image, input).run(u64::from(budget))

@@ -1,6 +1,6 @@
 use Rattle.std.proofs.Common.{rules, ◌≡◌, ℕ, ◌<◌, ◌^◌, ◌*◌, length, get_or, sym, ◌∙◌, ap, arith}
 use Rattle.std.proofs.lemmas.List.{take_all}
-use Rattle.rv_spec.specs.Digest.{digest_bytes}
+use Rattle.rv_spec.specs.Digest.{set_digest_bytes}
 use Rattle.rv_digest.proofs.Numbers.{numbers, read_back}
 use Rattle.rv_digest.proofs.words.bytes_of.Goals as goal
 
@@ -9,7 +9,7 @@ returns-clause-bytes c =
     let size : length c.args.words.now ≡ 16 = search rules in
     sym (take_all (8 * c.loop-i.i) c.loop-i.bytes (omega (arith, c.loop-i.invariant.0)))
     ∙ c.loop-i.invariant.1
-    ∙ ap digest_bytes (take_all c.loop-i.i c.args.words.now (omega (arith, size)))
+    ∙ ap set_digest_bytes (take_all c.loop-i.i c.args.words.now (omega (arith, size)))
 
 pub returns-clause-inverse : goal.returns-clause-inverse
 returns-clause-inverse c =

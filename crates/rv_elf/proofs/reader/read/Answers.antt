@@ -1,7 +1,8 @@
 use Rattle.std.proofs.Common.{◌%◌, ◌≤◌, ap, sym, ◌∙◌, subst, arith, map}
 use Rattle.std.specs.List.{All}
-use Rattle.rv_spec.specs.Elf.{some_overlap, IsImage}
-use Rattle.rv_spec.proofs.ImageLaws.{image-is}
+use Rattle.rv_spec.specs.Elf.{some_overlap}
+use Rattle.rv_elf.specs.ByAddress.{IsImage}
+use Rattle.rv_elf.proofs.ImageLaws.{image-is}
 use Rattle.rv_elf.specs.Index.{IsIndex}
 use Rattle.rv_elf.specs.Segments.{described}
 use Rattle.rv_elf.proofs.HeaderLaws.{whole_header, whole_table}

@@ -1,6 +1,6 @@
 use Rattle.std.proofs.Common.{◌≡◌, ◌++◌, take}
-use Rattle.rv_elf.specs.Written.{words}
+use Rattle.rv_elf.specs.Written.{words_bytes}
 use Rattle.rv_elf.proofs.writer.put_words.Given as goal
 
 abbrev pub invariant-loop-number : goal.invariant-loop-number
-invariant-loop-number l = l.file.items ≡ l.initial.file.items ++ words (take l.number-index l.numbers)
+invariant-loop-number l = l.file.items ≡ l.initial.file.items ++ words_bytes (take l.number-index l.numbers)

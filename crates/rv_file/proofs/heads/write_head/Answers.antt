@@ -2,7 +2,7 @@ use Rattle.std.proofs.Common.{◌++◌, [], refl, sym, ◌∙◌, arith}
 use Rattle.std.specs.Int.{w32, w64, to_le_bytes}
 use Rattle.std.proofs.lemmas.List.{take_all}
 use Rattle.rv_spec.specs.Record.{head_bytes}
-use Rattle.rv_row.proofs.Filling.{fills}
+use Rattle.rv_row.proofs.Lemmas.{fills}
 use Rattle.rv_file.proofs.heads.write_head.Goals as goal
 
 pub returns : goal.returns

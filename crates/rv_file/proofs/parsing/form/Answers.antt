@@ -1,6 +1,7 @@
-use Rattle.std.proofs.Common.{◌∷◌, [], sym, ap, ◌∙◌}
+use Rattle.std.proofs.Common.{◌∷◌, [], Err, sym, ap, ◌∙◌}
 use Rattle.std.proofs.lemmas.Result.{err_from_is_err_and}
-use Rattle.rv_spec.specs.Checks.{unless_broken}
+use Rattle.rv_base.specs.declared.rules.TheConstants.{TRAILING}
+use Rattle.rv_rules.specs.Checks.{unless_broken}
 use Rattle.rv_file.proofs.FormSteps.{header_refused, shards_refused, count_refused, entries_refused, reaches_end}
 use Rattle.rv_file.proofs.parsing.form.Goals as goal
 
@@ -31,7 +32,7 @@ returns-then-not-is_empty c =
     let count = c.get32-count.result in
     reaches_end c.args.file.now c.shards_of-shards.result.now c.in_ok-table.table.now c.in_ok-entries.entries.now c.in_ok-rest.rest.now h count
     c.in_ok-header.ensures.exact c.shards_of-shards.ensures c.in_ok-table.ensures c.in_ok-entries.ensures.exact c.get32-count.ensures c.in_ok-rest.ensures
-    ∙ ap (λ b. unless_broken h.shards count ((27, b) ∷ []) (h, count)) (sym c.is_empty.ensures ∙ c.if-not-is_empty.true)
+    ∙ ap (λ b. unless_broken h.shards count ((TRAILING, b) ∷ []) (h, count)) (sym c.is_empty.ensures ∙ c.if-not-is_empty.true) ∙ ap (λ r. Err r) (sym c.at.ensures)
 
 pub returns : goal.returns
 returns c =
@@ -39,4 +40,4 @@ returns c =
     let count = c.get32-count.result in
     reaches_end c.args.file.now c.shards_of-shards.result.now c.in_ok-table.table.now c.in_ok-entries.entries.now c.in_ok-rest.rest.now h count
     c.in_ok-header.ensures.exact c.shards_of-shards.ensures c.in_ok-table.ensures c.in_ok-entries.ensures.exact c.get32-count.ensures c.in_ok-rest.ensures
-    ∙ ap (λ b. unless_broken h.shards count ((27, b) ∷ []) (h, count)) (sym c.is_empty.ensures ∙ c.if-not-is_empty.false)
+    ∙ ap (λ b. unless_broken h.shards count ((TRAILING, b) ∷ []) (h, count)) (sym c.is_empty.ensures ∙ c.if-not-is_empty.false)

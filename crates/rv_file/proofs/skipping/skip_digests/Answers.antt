@@ -2,7 +2,7 @@ use Rattle.std.proofs.Common.{◌∷◌, [], length, drop, Ok, refl, sym, ◌∙
 use Rattle.std.specs.Prelude.{nat_le, ◌==◌}
 use Rattle.std.proofs.lemmas.Bool.{le-leb, eq-eqb}
 use Rattle.std.proofs.lemmas.List.{take_rest}
-use Rattle.rv_row.proofs.RowLaws.{hold}
+use Rattle.rv_row.proofs.Lemmas.{hold}
 use Rattle.rv_file.proofs.Steps.{unless_holds}
 use Rattle.rv_file.proofs.skipping.skip_digests.Goals as goal
 

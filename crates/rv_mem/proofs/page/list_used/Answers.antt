@@ -1,5 +1,5 @@
 use Rattle.std.proofs.Common.{◌++◌, arith, ap, sym, ◌∙◌, append-nil}
-use Rattle.rv_mem.specs.Used.{word_at}
+use Rattle.rv_mem.specs.Used.{listed_word}
 use Rattle.rv_mem.proofs.UsedLaws.{used-zero, next-used, next-unused, appended}
 use Rattle.rv_mem.proofs.page.list_used.Goals as goal
 use Rattle.rv_mem.proofs.page.list_used.Goals.{then-word-gt0+in-Ok, else-word-gt0}
@@ -7,7 +7,7 @@ use Rattle.rv_mem.proofs.page.list_used.Goals.{then-word-gt0+in-Ok, else-word-gt
 pub loop-i-init : goal.loop-i-init
 loop-i-init c =
     sym (append-nil c.args.entries.now.items)
-    ∙ ap (λ l. c.args.entries.now.items ++ l) (sym (used-zero (word_at c.args.words.now c.args.first) c.args.first))
+    ∙ ap (λ l. c.args.entries.now.items ++ l) (sym (used-zero (listed_word c.args.words.now c.args.first) c.args.first))
 
 pub loop-i-preserved : goal.loop-i-preserved
 loop-i-preserved c =

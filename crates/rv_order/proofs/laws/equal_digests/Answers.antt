@@ -1,4 +1,4 @@
-use Rattle.rv_spec.proofs.MultisetLaws.{digest-same}
+use Rattle.rv_rules.proofs.Lemmas.{digest-same}
 use Rattle.rv_order.proofs.laws.equal_digests.Goals as goal
 
 pub returns : goal.returns

@@ -1,4 +1,4 @@
-use Rattle.rv_reading.proofs.Laws.{pieces_join, cuts_dont_matter}
+use Rattle.rv_reading.proofs.Lemmas.{pieces_join, cuts_dont_matter}
 use Rattle.rv_reading.proofs.reading.cuts_dont_matter.Goals as goal
 
 pub returns-clause-pieces : goal.returns-clause-pieces

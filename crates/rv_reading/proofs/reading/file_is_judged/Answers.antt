@@ -1,4 +1,4 @@
-use Rattle.rv_reading.proofs.Laws.{judged_is_read, verdict_is_told}
+use Rattle.rv_reading.proofs.Lemmas.{judged_is_read, verdict_is_told}
 use Rattle.rv_reading.proofs.reading.file_is_judged.Goals as goal
 
 pub returns-clause-found : goal.returns-clause-found

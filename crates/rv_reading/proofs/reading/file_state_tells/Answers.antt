@@ -1,4 +1,4 @@
-use Rattle.rv_reading.proofs.Laws.{state_tells_file, file_stays_refused, file_state_waits}
+use Rattle.rv_reading.proofs.Lemmas.{state_tells_file, file_stays_refused, file_state_waits}
 use Rattle.rv_reading.proofs.reading.file_state_tells.Goals as goal
 
 pub returns-clause-refusals : goal.returns-clause-refusals

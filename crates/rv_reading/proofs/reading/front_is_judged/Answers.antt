@@ -1,4 +1,4 @@
-use Rattle.rv_reading.proofs.Laws.{front_is_judged, verdict_behind_front}
+use Rattle.rv_reading.proofs.Lemmas.{front_is_judged, verdict_behind_front}
 use Rattle.rv_reading.proofs.reading.front_is_judged.Goals as goal
 
 pub returns-clause-found : goal.returns-clause-found

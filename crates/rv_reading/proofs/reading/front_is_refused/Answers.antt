@@ -1,4 +1,4 @@
-use Rattle.rv_reading.proofs.Laws.{refused_at_front, front_stays_refused}
+use Rattle.rv_reading.proofs.Lemmas.{refused_at_front, front_stays_refused}
 use Rattle.rv_reading.proofs.reading.front_is_refused.Goals as goal
 
 pub returns-clause-whole : goal.returns-clause-whole

@@ -1,4 +1,4 @@
-use Rattle.rv_reading.proofs.Laws.{machine_is_stream, extents_are_streams}
+use Rattle.rv_reading.proofs.Lemmas.{machine_is_stream, extents_are_streams}
 use Rattle.rv_reading.proofs.reading.machine_is_stream.Goals as goal
 
 pub returns-clause-file : goal.returns-clause-file

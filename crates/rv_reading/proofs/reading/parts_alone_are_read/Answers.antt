@@ -1,4 +1,4 @@
-use Rattle.rv_reading.proofs.Laws.{shard_alone_is_read, shards_alone_are_read, table_alone_is_read}
+use Rattle.rv_reading.proofs.Lemmas.{shard_alone_is_read, shards_alone_are_read, table_alone_is_read}
 use Rattle.rv_reading.proofs.reading.parts_alone_are_read.Goals as goal
 
 pub returns-clause-shard : goal.returns-clause-shard

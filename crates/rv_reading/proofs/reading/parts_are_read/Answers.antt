@@ -1,4 +1,4 @@
-use Rattle.rv_reading.proofs.Laws.{whole_file_is_read, rows_are_read, shards_are_read, entries_are_read}
+use Rattle.rv_reading.proofs.Lemmas.{whole_file_is_read, rows_are_read, shards_are_read, entries_are_read}
 use Rattle.rv_reading.proofs.reading.parts_are_read.Goals as goal
 
 pub returns-clause-rows : goal.returns-clause-rows

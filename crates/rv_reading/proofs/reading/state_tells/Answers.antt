@@ -1,4 +1,4 @@
-use Rattle.rv_reading.proofs.Laws.{state_tells_refusals, refusals_stay, states_wait}
+use Rattle.rv_reading.proofs.Lemmas.{state_tells_refusals, refusals_stay, states_wait}
 use Rattle.rv_reading.proofs.reading.state_tells.Goals as goal
 
 pub returns-clause-refusals : goal.returns-clause-refusals

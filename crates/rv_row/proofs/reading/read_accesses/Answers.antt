@@ -2,7 +2,7 @@ use Rattle.std.proofs.Common.{◌≡◌, ℕ, ◌+◌, ◌*◌, length, drop, sy
 use Rattle.std.proofs.lemmas.List.{take_rest}
 use Rattle.std.proofs.lemmas.List.FromFn.{length-map-range_with_len, map-range_with_len_more}
 use Rattle.rv_base.specs.declared.record.Access.{Access}
-use Rattle.rv_spec.specs.Reading.{access_of}
+use Rattle.rv_rules.specs.Reading.{access_of}
 use Rattle.rv_row.proofs.reading.read_accesses.Goals as goal
 
 pub push-requires : goal.push-requires

@@ -1,6 +1,6 @@
 use Rattle.std.proofs.Common.{◌≡◌, ◌+◌, ◌*◌, map, drop}
 use Rattle.std.specs.List.{range_with_len}
-use Rattle.rv_spec.specs.Reading.{access_of}
+use Rattle.rv_rules.specs.Reading.{access_of}
 use Rattle.rv_row.proofs.reading.read_accesses.Given as goal
 
 abbrev pub invariant-loop-j : goal.invariant-loop-j

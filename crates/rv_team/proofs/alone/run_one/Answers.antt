@@ -3,7 +3,7 @@ use Rattle.std.specs.Prelude.{Some, slice_get}
 use Rattle.std.specs.List.{range_with_len}
 use Rattle.rv_book.specs.declared.task.Piece.{Piece}
 use Rattle.rv_book.specs.Journal.{BookState, indices, pieces_of}
-use Rattle.rv_book.proofs.Laws.{piece_below, whole}
+use Rattle.rv_book.proofs.Lemmas.{piece_below, whole}
 use Rattle.rv_team.proofs.OneWorker.{alone_more, indices-alone, journal_at}
 use Rattle.rv_team.proofs.alone.run_one.Goals as goal
 

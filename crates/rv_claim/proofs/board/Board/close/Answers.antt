@@ -4,7 +4,7 @@ use mathlib.Core.Option.{some, some-injective}
 use lib.ListN.{get_elem?}
 use Rattle.rv_book.specs.declared.task.Piece.{Piece}
 use Rattle.rv_book.specs.Journal.{BookState, pieces_of, indices}
-use Rattle.rv_book.proofs.Laws.{piece_below, whole}
+use Rattle.rv_book.proofs.Lemmas.{piece_below, whole}
 use Rattle.rv_claim.specs.declared.view.Kept.{Kept}
 use Rattle.rv_claim.specs.Passes.{deposited_of}
 use Rattle.rv_claim.specs.Closing.{depositor, slot_by, closing}

@@ -1,7 +1,7 @@
 use Rattle.std.proofs.Common.{take, refl, sym, ◌∙◌, ap, arith}
 use Rattle.std.proofs.lemmas.List.{take_all, take_more}
 use Rattle.rv_spec.specs.Digest.{digest, digest_lane}
-use Rattle.rv_lanes.proofs.Laws.{digest-added}
+use Rattle.rv_lanes.proofs.Lemmas.{digest-added}
 use Rattle.rv_digest.proofs.lanes.Lanes.sum_of.Goals as goal
 
 pub loop-t-init : goal.loop-t-init

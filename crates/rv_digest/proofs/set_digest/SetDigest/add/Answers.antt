@@ -1,6 +1,6 @@
 use Rattle.std.proofs.Common.{sym, ◌∙◌}
-use Rattle.rv_spec.specs.Digest.{add_lanes}
-use Rattle.rv_spec.proofs.DigestLaws.{digest-append}
+use Rattle.rv_rules.specs.Sums.{add_lanes}
+use Rattle.rv_rules.proofs.Lemmas.{digest-append}
 use Rattle.rv_digest.proofs.set_digest.SetDigest.add.Goals as goal
 
 pub returns-clause-of_list : goal.returns-clause-of_list

@@ -1,4 +1,4 @@
-use Rattle.rv_lanes.proofs.Laws.{digest-added}
+use Rattle.rv_lanes.proofs.Lemmas.{digest-added}
 use Rattle.rv_digest.proofs.set_digest.SetDigest.add_tuple.Goals as goal
 
 pub returns-clause-of_list : goal.returns-clause-of_list

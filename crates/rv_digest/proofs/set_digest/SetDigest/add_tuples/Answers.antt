@@ -1,6 +1,7 @@
 use Rattle.std.proofs.Common.{sym, ◌∙◌, ap}
-use Rattle.rv_spec.specs.Digest.{add_lanes, digest}
-use Rattle.rv_spec.proofs.DigestLaws.{digest-append}
+use Rattle.rv_rules.specs.Sums.{add_lanes}
+use Rattle.rv_spec.specs.Digest.{digest}
+use Rattle.rv_rules.proofs.Lemmas.{digest-append}
 use Rattle.rv_digest.proofs.set_digest.SetDigest.add_tuples.Goals as goal
 
 pub returns-clause-sum : goal.returns-clause-sum

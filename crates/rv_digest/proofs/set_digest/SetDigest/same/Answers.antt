@@ -1,5 +1,5 @@
 use Rattle.std.proofs.Common.{rules, sym, ◌∙◌}
-use Rattle.rv_spec.proofs.MultisetLaws.{digest-same}
+use Rattle.rv_rules.proofs.Lemmas.{digest-same}
 use Rattle.rv_digest.proofs.set_digest.SetDigest.same.Goals as goal
 
 pub returns-clause-equal : goal.returns-clause-equal

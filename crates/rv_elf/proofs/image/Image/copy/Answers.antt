@@ -1,5 +1,5 @@
 use Rattle.std.proofs.Common.{subst}
-use Rattle.rv_spec.specs.Agreement.{IsProgram}
+use Rattle.rv_rules.specs.Agreement.{IsProgram}
 use Rattle.rv_elf.proofs.image.Image.copy.Goals as goal
 
 pub returns-clause-program : goal.returns-clause-program

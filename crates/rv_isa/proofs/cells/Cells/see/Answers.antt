@@ -2,9 +2,9 @@ use Rattle.std.proofs.Common.{◌≡◌, ◌/◌, ◌^◌, ◌<◌, sym, ◌∙�
 use Rattle.rv_spec.specs.Step.{fetch_word}
 use Rattle.rv_spec.specs.Decode.{decode_any}
 use Rattle.rv_spec.specs.Cells.{register_cell, reservation_cell}
-use Rattle.rv_spec.specs.Touches.{instruction_uses, step_uses}
-use Rattle.rv_spec.proofs.MemoryLaws.{word-aligned}
-use Rattle.rv_isa.specs.Cells.{held}
+use Rattle.rv_spec.specs.Visits.{instruction_uses, step_uses}
+use Rattle.rv_rules.proofs.Lemmas.{word-aligned}
+use Rattle.rv_isa.specs.Cells.{cell_value}
 use Rattle.rv_isa.proofs.Covered.{AreCovered}
 use Rattle.rv_isa.proofs.Loads.{value-word}
 use Rattle.rv_isa.proofs.Placed.{uses-placed}
@@ -14,7 +14,7 @@ use Rattle.rv_isa.proofs.cells.Cells.see.Goals as goal
 pub returns : goal.returns
 unfolding step_uses
 returns c input s is holds version pc =
-    let f = held c.args.self.now in
+    let f = cell_value c.args.self.now in
     let o = c.of_word-operands.result in
     let low : s.pc / 4 < 2 ^ 30 = omega (arith, is.pc) in
     let fetched = c.get-word.ensures ∙ ap (λ n. f (n / 4)) (sym pc) ∙ holds (s.pc / 4) (word-cell (s.pc / 4) low) in

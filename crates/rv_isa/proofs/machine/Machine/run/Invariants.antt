@@ -1,6 +1,6 @@
 use Rattle.std.proofs.Common.{◌≡◌, None}
 use Rattle.rv_spec.specs.Run.{run, GoesOn}
-use Rattle.rv_isa.specs.Machine.{Shows}
+use Rattle.rv_isa.specs.Machine.{Represents}
 use Rattle.rv_isa.proofs.machine.Machine.run.Given as goal
 
 abbrev pub invariant-loop-done : goal.invariant-loop-done
@@ -8,6 +8,6 @@ invariant-loop-done l = record {
   image : l.self.image ≡ l.fn.self.image;
   input : l.self.input ≡ l.fn.self.input;
   going : l.self.ended ≡ None;
-  shows : Shows l.self (run l.fn.self.image l.fn.self.input l.done);
+  shows : Represents l.self (run l.fn.self.image l.fn.self.input l.done);
   goes : GoesOn l.fn.self.image l.fn.self.input l.done;
 }

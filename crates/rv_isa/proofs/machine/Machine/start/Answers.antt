@@ -2,7 +2,7 @@ use Rattle.std.proofs.Common.{◌≡◌, refl, sym, ◌∙◌, ap, subst, arith}
 use Rattle.rv_spec.specs.Elf.{Image}
 use Rattle.rv_spec.specs.Step.{start}
 use Rattle.rv_spec.specs.Cells.{initial_value}
-use Rattle.rv_spec.specs.Agreement.{IsProgram}
+use Rattle.rv_rules.specs.Agreement.{IsProgram}
 use Rattle.rv_isa.proofs.ByteLists.{bytes-are}
 use Rattle.rv_isa.proofs.MachineLaws.{first-shows}
 use Rattle.rv_isa.proofs.machine.Machine.start.Goals as goal

@@ -2,7 +2,7 @@
 use Rattle.std.proofs.Common.{◌≡◌, cond, ◌==◌, Option, Some, None, sym, subst}
 use Rattle.std.specs.Option.{IfSome}
 use Rattle.rv_spec.specs.Decode.{AnyInstr, decode, decode_atomic}
-use Rattle.rv_spec.specs.Touches.{instruction_uses}
+use Rattle.rv_spec.specs.Visits.{instruction_uses}
 use Rattle.rv_isa.proofs.Covered.{AreCovered}
 use Rattle.rv_isa.proofs.Fetched.{any-of-base, any-of-other}
 use Rattle.rv_isa.proofs.Fields.{HasAnyFields, any-decoded}

@@ -1,13 +1,13 @@
 use Rattle.std.proofs.Common.{◌≡◌, ◌≤◌, ◌+◌, ◌/◌, length, arith, sym, ◌∙◌}
-use Rattle.rv_mem.specs.Directory.{number_of}
+use Rattle.rv_mem.specs.Directory.{page_number}
 use Rattle.rv_mem.proofs.WordsLaws.{word-none, word-read, first-is}
 use Rattle.rv_mem.proofs.words.Words.get.Goals as goal
 
 pub returns-in-Some : goal.returns-in-Some
 returns-in-Some c =
-    let there : number_of c.args.self.now.directory.entries.items (c.args.w / 16) ≤ length c.args.self.now.pages.items =
+    let there : page_number c.args.self.now.directory.entries.items (c.args.w / 16) ≤ length c.args.self.now.pages.items =
     c.args.self.now.sound.there _ (omega (arith, c.requires)) in
-    let number : number_of c.args.self.now.directory.entries.items (c.args.w / 16) ≡ c.in-Some.index + 1 = c.in-Some.ensures in
+    let number : page_number c.args.self.now.directory.entries.items (c.args.w / 16) ≡ c.in-Some.index + 1 = c.in-Some.ensures in
     sym (word-read _ _ _ _ _ _ number (omega (arith, there, number)) c.index.ensures)
 
 pub returns-in-None : goal.returns-in-None

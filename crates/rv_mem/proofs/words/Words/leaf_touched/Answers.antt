@@ -1,20 +1,20 @@
 use Rattle.std.proofs.Common.{◌≡◌, ◌≤◌, ◌+◌, ◌*◌, ◌++◌, length, arith, sym, ap, ◌∙◌, append-nil}
-use Rattle.rv_mem.specs.Directory.{number_of}
-use Rattle.rv_mem.specs.Kept.{kept}
+use Rattle.rv_mem.specs.Directory.{page_number}
+use Rattle.rv_mem.specs.StoredCells.{stored_word}
 use Rattle.rv_mem.proofs.UsedLaws.{used-zero, appended}
 use Rattle.rv_mem.proofs.WordsLaws.{next-page, next-no_page}
 use Rattle.rv_mem.proofs.words.Words.leaf_touched.Goals as goal
 use Rattle.rv_mem.proofs.words.Words.leaf_touched.Goals.{in-Some+in_ok-list_used, in_default}
 
 pub loop-place-init : goal.loop-place-init
-loop-place-init c = sym (append-nil c.args.entries.now.items) ∙ ap (λ l. c.args.entries.now.items ++ l) (sym (used-zero (kept c.args.self.now) (131072 * c.args.leaf)))
+loop-place-init c = sym (append-nil c.args.entries.now.items) ∙ ap (λ l. c.args.entries.now.items ++ l) (sym (used-zero (stored_word c.args.self.now) (131072 * c.args.leaf)))
 
 pub loop-place-preserved : goal.loop-place-preserved
 loop-place-preserved c =
     elim c.match-find.branch [
       | in-Some+in_ok-list_used w ↦
-          let number : number_of c.args.self.now.directory.entries.items (8192 * c.args.leaf + c.loop-place.place) ≡ w.in-Some.index + 1 = w.in-Some.ensures in
-          let there : number_of c.args.self.now.directory.entries.items (8192 * c.args.leaf + c.loop-place.place) ≤ length c.args.self.now.pages.items =
+          let number : page_number c.args.self.now.directory.entries.items (8192 * c.args.leaf + c.loop-place.place) ≡ w.in-Some.index + 1 = w.in-Some.ensures in
+          let there : page_number c.args.self.now.directory.entries.items (8192 * c.args.leaf + c.loop-place.place) ≤ length c.args.self.now.pages.items =
           c.args.self.now.sound.there _ (omega (arith, c.requires, c.loop-place-test.true)) in
           appended _ _ _ _ _ _ (ap (λ v. v.items) w.entries-is ∙ w.in_ok-list_used.ensures) c.loop-place.invariant
           (next-page _ _ _ c.args.leaf c.loop-place.place w.in-Some.index w.index.result.now number (omega (arith, number, there)) w.index.ensures)

@@ -1,0 +1,12 @@
+pub mod Lemmas
+pub mod Computes
+mod DigestLaws
+mod MultisetLaws
+mod ChainCore
+mod OwnTimes
+mod Members
+mod ChainLaws
+mod OldValues
+mod MemoryLaws
+pub mod VerdictExamples
+mod BrokenFiles
