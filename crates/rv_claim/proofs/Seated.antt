@@ -11,7 +11,8 @@ use Rattle.rv_book.specs.BoardLaws.{one, times}
 use Rattle.rv_book.specs.Board.{is_in}
 use Rattle.std.proofs.lemmas.List.Sums.{sum_by-cons}
 use Rattle.rv_claim.specs.Rule.{Ruled}
-use Rattle.rv_claim.proofs.Steps.{Seat, claims, opens_slot, fills_slot, splits, joins, none_else}
+use Rattle.rv_claim.proofs.Homes.{splits, joins}
+use Rattle.rv_claim.proofs.Steps.{Seat, claims, opens_slot, fills_slot, none_else}
 
 module _ (piece : ℕ → Piece) (n w slots id : ℕ) (me : Seat) where
   pub seat_claims : me ≡ (pass_view me.0.own, []) → is_past n me.0.own.drawn ≡ false

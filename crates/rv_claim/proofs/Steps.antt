@@ -1,23 +1,23 @@
--- Each kind of step keeps the board's rule.
-use Rattle.std.proofs.Common.{replicate, map, ◌≡◌, ◌≢◌, ℕ, zero, suc, ◌+◌, ◌-◌, ◌*◌, ◌%◌, ◌^◌, ◌<◌, ◌≤◌, Bool, true, false, cond, ◌||◌, ◌&&◌, List, [], ◌∷◌, ◌++◌, length, get_or, set, sym, refl, ap, ◌∙◌, subst, ⊎_elim, arith, length-set, get_or-set_same}
+-- Claims, and the opening and filling of a slot, keep the board's rule.
+use Rattle.std.proofs.Common.{◌≡◌, ◌≢◌, ℕ, suc, ◌+◌, ◌-◌, ◌*◌, ◌%◌, ◌^◌, ◌<◌, ◌≤◌, Bool, true, false, cond, ◌||◌, ◌&&◌, List, [], ◌∷◌, ◌++◌, get_or, set, sym, refl, ap, ◌∙◌, subst, ⊎_elim, arith, length-set, get_or-set_same}
 use Rattle.std.proofs.lemmas.Bool.{true≢false}
 use Rattle.std.proofs.Math.Bool.{or-false, or-true}
-use Rattle.std.specs.Prelude.{sum_by, nat_lt, nat_le, ◌==◌, Option, Some, None}
-use Rattle.std.proofs.lemmas.List.{get_or-set_other, length-map, length-replicate}
+use Rattle.std.specs.Prelude.{nat_lt, nat_le, ◌==◌, Option, Some, None}
+use Rattle.std.proofs.lemmas.List.{get_or-set_other}
 use Rattle.std.proofs.lemmas.Bool.Decides.{nat_tests}
 use mathlib.Core.Option.{some, none, some-injective, some-ne-none}
 use mathlib.Core.Logic.{dite}
 use native.Mathlib.Decide.{ℕ_discrete}
 use lib.ListN.{get_elem?}
-use Rattle.atomic_table.specs.Table.{State, Me, keeps, takes, gives, Allows, Splits, Joins, opening}
-use Rattle.atomic_table.proofs.Lists.{at_set, at_longer, at_snoc, set_here, set_else}
+use Rattle.atomic_table.specs.Table.{State, Me, keeps, takes, gives, Allows}
+use Rattle.atomic_table.proofs.Lists.{at_set, set_here, set_else}
 use Rattle.rv_book.specs.declared.task.Piece.{Piece}
-use Rattle.std.proofs.lemmas.List.Sums.{sum_by_push, sum_by-cons}
+use Rattle.std.proofs.lemmas.List.Sums.{sum_by-cons}
 use Rattle.rv_book.specs.Board.{is_in}
 use Rattle.rv_claim.specs.declared.view.Kept.{Kept}
 use Rattle.rv_claim.specs.declared.view.Lists.{Lists}
 use Rattle.rv_claim.specs.declared.view.View.{View}
-use Rattle.rv_claim.specs.Views.{kept, fresh, pass_view, home_view, spent_view, draws, opens, fills, is_past, last_past, drew, put, put_by, waits, past, numbered, each_one, in_view, total}
+use Rattle.rv_claim.specs.Views.{kept, fresh, pass_view, draws, opens, fills, is_past, last_past, drew, put, put_by, waits, past, numbered, each_one, in_view, total}
 use Rattle.rv_book.specs.BoardLaws.{one, times}
 use Rattle.rv_claim.specs.Rule.{Numbers, Fits, EachFits, SlotFits, Ruled}
 use Rattle.rv_claim.proofs.Totals.{sum_at, sum_le, sum_gap, in_view_le, total_both, one_more, gap_more, one_le, times_push, past_push}
@@ -52,7 +52,7 @@ out_of i xs h = by (is_in i xs) refl
     by true e = absurd (omega (arith, in_times i xs e, h))
     by false e = refl
 
--- the last of a longer list
+-- a longer list, of which no number but the last is n or more
 last_push : (n y : ℕ) (ys : List ℕ) → is_past n ys ≡ false → last_past n (ys ++ y ∷ []) ≡ true
 last_push n y [] h = refl
 last_push n y (x ∷ []) h = ap (λ b. b && true) (below_one n x false h)
@@ -86,7 +86,7 @@ numbers_stay w vs id l m at same r =
     live_ne e f = true≢false (e ∙ f)
 
 -- a slot is as it was where no total of it changes
-slot_stays : (piece : ℕ → Piece) (i : ℕ) (vs ws : List View) (h : _) → total (put i) ws ≡ total (put i) vs → total (waits i) ws ≡ total (waits i) vs → ((p : ℕ) → total (put_by p i) ws ≡ total (put_by p i) vs)
+pub slot_stays : (piece : ℕ → Piece) (i : ℕ) (vs ws : List View) (h : _) → total (put i) ws ≡ total (put i) vs → total (waits i) ws ≡ total (waits i) vs → ((p : ℕ) → total (put_by p i) ws ≡ total (put_by p i) vs)
     → SlotFits piece i vs h → SlotFits piece i ws h
 slot_stays piece i vs ws h a b by r = record {
   empty = λ x y. r.empty (sym a ∙ x) (sym b ∙ y);
@@ -289,122 +289,3 @@ module _ (piece : ℕ → Piece) (n w : ℕ) where
           let before : total (put_by p i) s.views ≤ total (put i) s.views = sum_le (in_view (put_by p i)) (in_view (put i)) s.views (λ k v _. in_view_le (put_by p i) (put i) v (λ _. by_le (v.own.number == p) (put i v.own)) (λ j g _. by_le (g.number == p) (put i g))) in
           let t : total (put_by p i) (set s.views id (pass_view m)) + put_by p i l ≡ total (put_by p i) s.views + put_by p i m = moved s.views id l m at (put_by p i) in
           omega (arith, t, a, b, before, none_put, none_mine, times_push i i l.deposited, here)
-
--- a place of a list is below its length
-at_below : {X : Type 0} (xs : List X) (i : ℕ) (x : X) → get_elem? xs i ≡ some x → i < length xs
-at_below [] i x at = absurd (some-ne-none x (sym at))
-at_below (y ∷ ys) zero x at = omega arith
-at_below (y ∷ ys) (suc i) x at = let h = at_below ys i x at in omega arith
-
-fresh_by : (p k i : ℕ) → put_by p i (fresh k) ≡ 0
-fresh_by p k i = by (k == p)
-  where
-    by : (b : Bool) → let z : ℕ = 0 in cond b z z ≡ z
-    by true = refl
-    by false = refl
-
-module _ (piece : ℕ → Piece) (n w : ℕ) where
-  pub splits : (made : ℕ) (ls : List Lists) → made < w → Splits (Ruled piece n w) 0 (home_view made ls) (home_view (made + 1) ls) (pass_view (fresh made))
-  splits made ls room s r at =
-      let h : View = home_view made ls in
-      let g : View = home_view (made + 1) ls in
-      let o : View = pass_view (fresh made) in
-      let vs : List View = set s.views 0 g ++ o ∷ [] in
-      let sum : (f : Lists → ℕ) → total f vs ≡ total f s.views + f (fresh made) = λ f. let a = sum_by_push (in_view f) (set s.views 0 g) o in let b = sum_at (in_view f) s.views 0 h g at in omega (arith, a, b) in
-      let same : r.numbers.home ≡ h = some-injective _ _ (sym r.numbers.at ∙ at) in
-      let made_is : r.numbers.home.made ≡ made = ap (λ (v : View). v.made) same in
-      let first : get_elem? vs 0 ≡ some g = at_longer (set s.views 0 g) (o ∷ []) 0 g (set_here s.views 0 g (at_below s.views 0 h at)) in
-      record {
-        few = r.few;
-        sized = r.sized;
-        drawn = λ x. omega (arith, sum (drew x)) ∙ r.drawn x;
-        past = omega (arith, sum (past n)) ∙ r.past;
-        numbers = record {
-          home = g;
-          at = first;
-          quiet = refl;
-          few = omega arith;
-          count = omega (arith, sum each_one, r.numbers.count, made_is);
-          each = λ k.
-              let t : total (numbered k) vs ≡ total (numbered k) s.views + one (made == k) = sum (numbered k) in
-              let u : total (numbered k) s.views ≡ one (nat_lt k made) = r.numbers.each k ∙ ap (λ (m : ℕ). one (nat_lt k m)) made_is in
-              omega (arith, t, u, one_more made k);
-        };
-        lists = λ seat v there. ⊎_elim
-            (λ old. ⊎_elim (λ hit. subst (EachFits n) hit.1 ((λ live. absurd (true≢false (sym live))), (r.lists 0 h at).1)) (λ miss. r.lists seat v miss.1) (at_set s.views 0 seat g v old))
-            (λ new. subst (EachFits n) new ((λ _. record { last = refl; taken = λ i. omega arith; below = λ i le. refl }), λ k m none_there. absurd (some-ne-none m (sym none_there))))
-            (at_snoc (set s.views 0 g) o v seat there);
-        marks = λ i lt. r.marks i lt ∙ omega (arith, sum (put i), sum (waits i));
-        slots = λ i lt. slot_stays piece i s.views vs (get_elem? s.homes i) (omega (arith, sum (put i))) (omega (arith, sum (waits i))) (λ p. omega (arith, sum (put_by p i), fresh_by p made i)) (r.slots i lt);
-      }
-
-  pub joins : (made : ℕ) (ls : List Lists) (other : ℕ) (l : Lists) → l.pending ≡ None → Joins (Ruled piece n w) 0 (home_view made ls) other (pass_view l) (home_view made (ls ++ l ∷ [])) spent_view
-  joins made ls other l idle s r at apart at' =
-      let h : View = home_view made ls in
-      let g : View = home_view made (ls ++ l ∷ []) in
-      let o : View = pass_view l in
-      let us : List View = set s.views 0 g in
-      let vs : List View = set us other spent_view in
-      let sum : (f : Lists → ℕ) → total f vs ≡ total f s.views = λ f.
-      let a : total f us + sum_by f ls ≡ total f s.views + sum_by f (ls ++ l ∷ []) = let t = sum_at (in_view f) s.views 0 h g at in omega (arith, t) in
-      let b : total f vs + f l ≡ total f us = let t = sum_at (in_view f) us other o spent_view at' in omega (arith, t) in
-      omega (arith, a, b, sum_by_push f ls l) in
-      let same : r.numbers.home ≡ h = some-injective _ _ (sym r.numbers.at ∙ at) in
-      let made_is : r.numbers.home.made ≡ made = ap (λ (v : View). v.made) same in
-      let first : get_elem? vs 0 ≡ some g = set_else us other 0 spent_view (λ e. apart (sym e)) ∙ set_here s.views 0 g (at_below s.views 0 h at) in
-      let theirs : get_elem? s.views other ≡ some o = sym (set_else s.views 0 other g apart) ∙ at' in
-      record {
-        few = r.few;
-        sized = r.sized;
-        drawn = λ x. sum (drew x) ∙ r.drawn x;
-        past = sum (past n) ∙ r.past;
-        numbers = record {
-          home = g;
-          at = first;
-          quiet = refl;
-          few = omega (arith, r.numbers.few, made_is);
-          count = sum each_one ∙ r.numbers.count ∙ made_is;
-          each = λ k. sum (numbered k) ∙ r.numbers.each k ∙ ap (λ (m : ℕ). one (nat_lt k m)) made_is;
-        };
-        lists = λ seat v there. ⊎_elim
-            (λ hit. subst (EachFits n) hit.1 ((λ live. absurd (true≢false (sym live))), λ k m none_there. absurd (some-ne-none m (sym none_there))))
-            (λ miss. ⊎_elim
-            (λ hit. subst (EachFits n) hit.1 (
-              (λ live. absurd (true≢false (sym live))),
-              λ k m in_there. ⊎_elim (λ old. (r.lists 0 h at).1 k m old) (λ new. subst (λ (z : Lists). Fits n z × (z.pending ≡ None)) new ((r.lists other o theirs).0 refl, idle)) (at_snoc ls l m k in_there),
-            ))
-            (λ old. r.lists seat v old.1)
-            (at_set s.views 0 seat g v miss.1))
-            (at_set us other seat spent_view v there);
-        marks = λ i lt. r.marks i lt ∙ omega (arith, sum (put i), sum (waits i));
-        slots = λ i lt. slot_stays piece i s.views vs (get_elem? s.homes i) (sum (put i)) (sum (waits i)) (λ p. sum (put_by p i)) (r.slots i lt);
-      }
-
-  no_words : (k i : ℕ) → let z : ℕ = 0 in get_or (replicate k z) i z ≡ z
-  no_words zero i = refl
-  no_words (suc k) zero = refl
-  no_words (suc k) (suc i) = no_words k i
-
-  nones : (k i : ℕ) → i < k → let nothing : Option Kept = None in get_elem? (map some (replicate k nothing)) i ≡ some (some nothing)
-  nones zero i lt = absurd (omega arith)
-  nones (suc k) zero lt = refl
-  nones (suc k) (suc i) lt = nones k i (omega arith)
-
-  pub begins : n ≤ 65536 → w ≤ 64 → Ruled piece n w (opening (replicate (n + 1) 0) (replicate n None) (home_view 0 []))
-  begins few_n few_w = record {
-    few = (few_n, few_w);
-    sized = (length-replicate (n + 1) 0, length-map (replicate n None) some ∙ length-replicate n None);
-    drawn = λ x. sym (none_below x) ∙ ap (λ (k : ℕ). one (nat_lt x k)) (sym (no_words (n + 1) 0));
-    past = omega (arith, no_words (n + 1) 0);
-    numbers = record { home = home_view 0 []; at = refl; quiet = refl; few = omega arith; count = refl; each = λ k. sym (none_below k) };
-    lists = λ seat v there. at_first seat v there;
-    marks = λ i lt. no_words (n + 1) (suc i);
-    slots = λ i lt. record { empty = λ p q. nones n i lt; out = λ p. absurd (omega (arith, p)); full = λ p. absurd (omega (arith, p)) };
-  }
-    where
-      none_below : (x : ℕ) → one (nat_lt x 0) ≡ 0
-      none_below x = grind (arith, nat_tests)
-
-      at_first : (seat : ℕ) (v : View) → get_elem? (home_view 0 [] ∷ []) seat ≡ some v → EachFits n v
-      at_first zero v there = subst (EachFits n) (some-injective (home_view 0 []) v there) ((λ live. absurd (true≢false (sym live))), λ k m none_there. absurd (some-ne-none m (sym none_there)))
-      at_first (suc seat) v there = absurd (some-ne-none v (sym there))

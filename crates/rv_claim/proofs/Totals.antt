@@ -39,10 +39,6 @@ module _ {X : Type 0} where
   sum_same g h [] e = refl
   sum_same g h (z ∷ zs) e = omega (arith, sum_by-cons g z zs, sum_by-cons h z zs, e z, sum_same g h zs e)
 
--- P of each pass that a view tells of
-pub each_in : (Lists → Type 0) → View → Type 0
-each_in P v = (v.live ≡ true → P v.own) × ((k : ℕ) (l : Lists) → get_elem? v.gathered k ≡ some l → P l)
-
 module _ (f g : Lists → ℕ) where
   own_le : (b : Bool) (l : Lists) → (b ≡ true → f l ≤ g l) → cond b (f l) 0 ≤ cond b (g l) 0
   own_le true l h = h refl
@@ -60,10 +56,6 @@ module _ (f g : Lists → ℕ) where
 
   pub total_both : (vs : List View) → total (λ l. f l + g l) vs ≡ total f vs + total g vs
   total_both vs = sum_same (in_view (λ l. f l + g l)) (λ v. in_view f v + in_view g v) vs in_view_both ∙ sum_both (in_view f) (in_view g) vs
-
--- where a view changes and tells of as much as it did
-pub total_same : (f : Lists → ℕ) (vs : List View) (id : ℕ) (v w : View) → get_elem? vs id ≡ some v → in_view f v ≡ in_view f w → total f (set vs id w) ≡ total f vs
-total_same f vs id v w at e = let s = sum_at (in_view f) vs id v w at in omega (arith, s, e)
 
 -- numbers
 pub one_more : (x y : ℕ) → one (x == y) + one (nat_lt y x) ≡ one (nat_lt y (x + 1))

@@ -1,27 +1,12 @@
 -- What workers give back, over plain lists.
-use Rattle.std.proofs.Common.{◌≡◌, ◌≢◌, ℕ, zero, suc, ◌+◌, ◌<◌, ◌≤◌, ◌⊎◌, Bool, true, false, ◌||◌, List, [], ◌∷◌, ◌++◌, length, sym, refl, ap, ◌∙◌, subst, ⊎_elim, arith}
+use Rattle.std.proofs.Common.{◌≡◌, ◌≢◌, ℕ, zero, suc, ◌+◌, ◌<◌, Bool, true, false, List, [], ◌∷◌, ◌++◌, length, sym, refl, ap, ◌∙◌, subst, arith}
 use Rattle.std.specs.Prelude.{slice_index_or, ◌==◌}
 use Rattle.std.proofs.lemmas.Bool.Decides.{nat_tests}
-use Rattle.std.proofs.Math.Bool.{or-false, or-true}
-use Rattle.std.proofs.lemmas.List.Folds.{list_any-append}
-use Rattle.rv_book.specs.Board.{is_in}
 use Rattle.std.proofs.Common.{length-append}
-use Rattle.rv_claim.specs.Closing.{is_settled}
 use Rattle.rv_claim.specs.declared.pass.Pass.{Pass}
 use Rattle.rv_team.specs.Work.{IsDone, AreDone}
 
-pub in_last : (i : ℕ) (xs : List ℕ) → is_in i (xs ++ i ∷ []) ≡ true
-in_last i xs = list_any-append (λ x. x == i) xs (i ∷ []) ∙ ap (λ b. is_in i xs || (b || false)) (let e : (i == i) ≡ true = grind (arith, nat_tests) in e) ∙ or-true (is_in i xs)
-
--- what was drawn last is not below n, and all else is deposited
-pub settles : (n : ℕ) (old drawn deposited : List ℕ) → deposited ≡ old → (drawn ≡ old) ⊎ ((x : ℕ) × (n ≤ x) × (drawn ≡ old ++ x ∷ [])) → is_settled n drawn deposited
-settles n old drawn deposited same how i lt there = ⊎_elim
-    (λ e. ap (is_in i) (same ∙ sym e) ∙ there)
-    (λ t. ap (is_in i) same ∙ (let not_last : (t.0 == i) ≡ false = (let le = t.1 in grind (arith, nat_tests)) in
-    sym (list_any-append (λ x. x == i) old (t.0 ∷ []) ∙ ap (λ b. is_in i old || (b || false)) not_last ∙ or-false (is_in i old)) ∙ sym (ap (is_in i) t.2) ∙ there))
-    how
-
--- one pass more
+-- a list with one element more
 module _ {X : Type 0} where
   first_same : (xs : List X) (y d : X) (k : ℕ) → k < length xs → slice_index_or (xs ++ y ∷ []) k d ≡ slice_index_or xs k d
   first_same [] y d k lt = absurd (omega (arith, lt))
@@ -32,20 +17,20 @@ module _ {X : Type 0} where
   last_is [] y d = refl
   last_is (x ∷ xs) y d = last_is xs y d
 
-module _ where
-  pub done_more : (ps rest : List Pass) (last q : Pass) (qs done : List Pass) → ps ≡ rest ++ last ∷ [] → AreDone rest done → IsDone last q → qs ≡ done ++ q ∷ [] → AreDone ps qs
-  done_more ps rest last q qs done ep r d eq = subst (λ us. AreDone us qs) (sym ep) (subst (λ us. AreDone (rest ++ last ∷ []) us) (sym eq) (
-    length-append done (q ∷ []) ∙ ap (λ n. n + 1) r.0 ∙ sym (length-append rest (last ∷ [])),
-    λ k z lt. at k z (k == length rest) refl (omega (arith, lt, length-append rest (last ∷ []))),
-  ))
-    where
-      at : (k : ℕ) (z : Pass) (t : Bool) → (k == length rest) ≡ t → k < length rest + 1 → IsDone (slice_index_or (rest ++ last ∷ []) k z) (slice_index_or (done ++ q ∷ []) k z)
-      at k z true e lt =
-          let here : k ≡ length rest = grind (arith, nat_tests) in
-          let there : k ≡ length done = omega (arith, here, r.0) in
-          subst (λ u. IsDone u (slice_index_or (done ++ q ∷ []) k z)) (sym (ap (λ j. slice_index_or (rest ++ last ∷ []) j z) here ∙ last_is rest last z))
-          (subst (λ u. IsDone last u) (sym (ap (λ j. slice_index_or (done ++ q ∷ []) j z) there ∙ last_is done q z)) d)
-      at k z false e lt =
-          let before : k < length rest = (let far : k ≢ length rest = grind (arith, nat_tests) in omega (arith, far, lt)) in
-          subst (λ u. IsDone u (slice_index_or (done ++ q ∷ []) k z)) (sym (first_same rest last z k before))
-          (subst (λ u. IsDone (slice_index_or rest k z) u) (sym (first_same done q z k (omega (arith, before, r.0)))) (r.1 k z before))
+-- the passes of several workers, with that of one more
+pub done_more : (ps rest : List Pass) (last q : Pass) (qs done : List Pass) → ps ≡ rest ++ last ∷ [] → AreDone rest done → IsDone last q → qs ≡ done ++ q ∷ [] → AreDone ps qs
+done_more ps rest last q qs done ep r d eq = subst (λ us. AreDone us qs) (sym ep) (subst (λ us. AreDone (rest ++ last ∷ []) us) (sym eq) (
+  length-append done (q ∷ []) ∙ ap (λ n. n + 1) r.0 ∙ sym (length-append rest (last ∷ [])),
+  λ k z lt. at k z (k == length rest) refl (omega (arith, lt, length-append rest (last ∷ []))),
+))
+  where
+    at : (k : ℕ) (z : Pass) (t : Bool) → (k == length rest) ≡ t → k < length rest + 1 → IsDone (slice_index_or (rest ++ last ∷ []) k z) (slice_index_or (done ++ q ∷ []) k z)
+    at k z true e lt =
+        let here : k ≡ length rest = grind (arith, nat_tests) in
+        let there : k ≡ length done = omega (arith, here, r.0) in
+        subst (λ u. IsDone u (slice_index_or (done ++ q ∷ []) k z)) (sym (ap (λ j. slice_index_or (rest ++ last ∷ []) j z) here ∙ last_is rest last z))
+        (subst (λ u. IsDone last u) (sym (ap (λ j. slice_index_or (done ++ q ∷ []) j z) there ∙ last_is done q z)) d)
+    at k z false e lt =
+        let before : k < length rest = (let far : k ≢ length rest = grind (arith, nat_tests) in omega (arith, far, lt)) in
+        subst (λ u. IsDone u (slice_index_or (done ++ q ∷ []) k z)) (sym (first_same rest last z k before))
+        (subst (λ u. IsDone (slice_index_or rest k z) u) (sym (first_same done q z k (omega (arith, before, r.0)))) (r.1 k z before))

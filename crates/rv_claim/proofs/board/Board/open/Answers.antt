@@ -3,7 +3,7 @@ use Rattle.std.specs.Prelude.{None}
 use Rattle.atomic_table.specs.Table.{opening}
 use Rattle.rv_claim.specs.Views.{home_view}
 use Rattle.rv_claim.specs.Rule.{Ruled}
-use Rattle.rv_claim.proofs.Steps.{begins}
+use Rattle.rv_claim.proofs.Homes.{begins}
 use Rattle.rv_claim.proofs.Seated.{seat_splits}
 use Rattle.rv_claim.proofs.board.Board.open.Goals as goal
 
