@@ -18,7 +18,7 @@ none_first : (bs : List Bool) (n : ℕ) → AllByRecursion (λ b. b ≡ false) b
 none_first [] n clear = refl
 none_first (b ∷ bs) n clear = ap (λ z. cond z (Some n) (position_from (λ b. b) (n + 1) bs)) clear.0 ∙ none_first bs (n + 1) clear.1
 
-all_clear : (bs : List Bool) (n : ℕ) → position_from (λ b. b) n bs ≡ None → AllByRecursion (λ b. b ≡ false) bs
+pub all_clear : (bs : List Bool) (n : ℕ) → position_from (λ b. b) n bs ≡ None → AllByRecursion (λ b. b ≡ false) bs
 all_clear [] n e = tt
 all_clear (true ∷ bs) n e = absurd (some_not_none n e)
   where

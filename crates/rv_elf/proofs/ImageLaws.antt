@@ -3,29 +3,12 @@ use Rattle.std.proofs.Common.{◌≡◌, ℕ, ◌+◌, ◌-◌, ◌<◌, ◌≤�
 use Rattle.std.specs.List.{AllByRecursion, list_any, position_from}
 use Rattle.std.proofs.lemmas.Bool.{ltb-true, ltb-false, lt-ltb, leb-true, le-leb}
 use Rattle.rv_spec.specs.Words.{block_byte}
-use Rattle.rv_rules.proofs.Lemmas.{left_true, right_true}
 use Rattle.rv_rules.specs.Membership.{In}
-use Rattle.rv_rules.proofs.Lemmas.{all-in, all-of}
+use Rattle.rv_rules.proofs.Lemmas.{both_true, left_true, right_true, left_false, right_false, all-in, all-of}
+use Rattle.rv_elf.proofs.FaultLaws.{all_clear}
+use Rattle.rv_elf.proofs.IndexLaws.{none_in}
 use Rattle.rv_spec.specs.Elf.{Segment, load_segments, overlaps, some_overlap, fault_tests, first_fault, image, block_of}
 use Rattle.rv_elf.specs.ByAddress.{image_byte, TakesByteAt, IsImage}
-
-both_true : (a b : Bool) → a ≡ true → b ≡ true → (a && b) ≡ true
-both_true true b p q = q
-both_true false b p q = p
-
-left_false : (a b : Bool) → (a || b) ≡ false → a ≡ false
-left_false true b e = e
-left_false false b e = refl
-
-right_false : (a b : Bool) → (a || b) ≡ false → b ≡ false
-right_false true b e = absurd (true≢false e)
-right_false false b e = e
-
--- no element passes a test that none passes
-none_of : {A : Type 0} (p : A → Bool) (x : A) (xs : List A) → list_any p xs ≡ false → In x xs → p x ≡ false
-none_of p x [] e m = absurd m
-none_of p x (y ∷ ys) e (inl same) = ap p same ∙ left_false (p y) (list_any p ys) e
-none_of p x (y ∷ ys) e (inr m) = none_of p x ys (right_false (p y) (list_any p ys) e) m
 
 -- the bytes that a segment takes are as many as it says
 size_is : (file : List ℕ) (s : Segment) → s.offset + s.file_size ≤ length file → length (take s.file_size (drop s.offset file)) ≡ s.file_size
@@ -74,30 +57,21 @@ taken file (u ∷ ss) o a s (inr m) t =
     elim (holds file u a) as (λ b. holds file u a ≡ b → cond b (slice_index (take u.file_size (drop u.offset file)) (a - u.address)) (block_byte (map (block_of file) ss) a) ≡ slice_index file (s.offset + (a - s.address))) [
       | true ↦ λ e.
           let h = true-holds file u a (o.in_file u (inl refl)) e in
-          let clear : overlaps u s ≡ false = none_of (overlaps u) s ss (left_false (list_any (overlaps u) ss) (some_overlap ss) o.apart) m in
+          let clear : overlaps u s ≡ false = none_in (overlaps u) s ss (left_false (list_any (overlaps u) ss) (some_overlap ss) o.apart) m in
           let no : min (u.address + u.memory_size) (s.address + s.memory_size) ≤ max u.address s.address = ltb-false (max u.address s.address) (min (u.address + u.memory_size) (s.address + s.memory_size)) clear in
           absurd (omega (arith, no, h.0, h.1, t.0, t.1, o.in_memory u (inl refl), o.in_memory s (inr m)))
       | false ↦ λ e. taken file ss (rest file u ss o) a s m t
     ] refl
 
--- where no test is the first that passes, none passes
-no_first : (bs : List Bool) (n : ℕ) → position_from (λ b. b) n bs ≡ None → AllByRecursion (λ b. b ≡ false) bs
-no_first [] n e = tt
-no_first (true ∷ bs) n e = absurd (some_not_none n e)
-  where
-    some_not_none : (n : ℕ) → Some n ≡ None → ⊥
-    some_not_none n e = cc
-no_first (false ∷ bs) n e = (refl, no_first bs (n + 1) e)
-
 -- the law
 pub image-is : (version : ℕ) (file : List ℕ) → first_fault file ≡ None → IsImage file (image version file)
 unfolding first_fault
 image-is version file e =
-    let tests : AllByRecursion (λ b. b ≡ false) (fault_tests file) = no_first (fault_tests file) 1 e in
+    let tests : AllByRecursion (λ b. b ≡ false) (fault_tests file) = all_clear (fault_tests file) 1 e in
     let late = tests.1.1.1.1.1.1.1.1.1.1 in
     let o : Sound file (load_segments file) = record {
-      in_file = λ s m. ltb-false (length file) (s.offset + s.file_size) (none_of (λ s. nat_lt (length file) (s.offset + s.file_size)) s (load_segments file) late.0 m);
-      in_memory = λ s m. ltb-false s.memory_size s.file_size (none_of (λ s. nat_lt s.memory_size s.file_size) s (load_segments file) late.1.0 m);
+      in_file = λ s m. ltb-false (length file) (s.offset + s.file_size) (none_in (λ s. nat_lt (length file) (s.offset + s.file_size)) s (load_segments file) late.0 m);
+      in_memory = λ s m. ltb-false s.memory_size s.file_size (none_in (λ s. nat_lt s.memory_size s.file_size) s (load_segments file) late.1.0 m);
       apart = late.1.1.1.1.0;
     } in
     record {

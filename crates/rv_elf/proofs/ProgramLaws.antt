@@ -5,26 +5,8 @@ use Rattle.std.specs.Int.{w32, from_le_bytes}
 use Rattle.rv_spec.specs.Words.{AreBytes}
 use Rattle.rv_spec.specs.Elf.{Segment, first_fault, load_segments, block_of, image}
 use Rattle.rv_rules.specs.Agreement.{IsProgram}
+use Rattle.rv_rules.proofs.Lemmas.{byte-fits, take-bytes, drop-bytes}
 use Rattle.rv_elf.proofs.HeaderLaws.{entry_aligned}
-
-pub bytes-are : (bytes : List ℕ) → ((i : ℕ) → get_or bytes i 0 < 2 ^ 8) → AreBytes bytes
-bytes-are [] fits = tt
-bytes-are (b ∷ bytes) fits = (fits 0, bytes-are bytes (λ i. fits (suc i)))
-
-byte-fits : (bytes : List ℕ) (i : ℕ) → AreBytes bytes → get_or bytes i 0 < 2 ^ 8
-byte-fits [] i h = omega arith
-byte-fits (b ∷ bytes) zero h = h.0
-byte-fits (b ∷ bytes) (suc i) h = byte-fits bytes i h.1
-
-take-bytes : (k : ℕ) (xs : List ℕ) → AreBytes xs → AreBytes (take k xs)
-take-bytes zero xs h = tt
-take-bytes (suc k) [] h = tt
-take-bytes (suc k) (x ∷ xs) h = (h.0, take-bytes k xs h.1)
-
-drop-bytes : (k : ℕ) (xs : List ℕ) → AreBytes xs → AreBytes (drop k xs)
-drop-bytes zero xs h = h
-drop-bytes (suc k) [] h = tt
-drop-bytes (suc k) (x ∷ xs) h = drop-bytes k xs h.1
 
 number-fits : (bytes : List ℕ) → AreBytes bytes → from_le_bytes w32 bytes < 2 ^ 32
 number-fits bytes h = omega (arith, byte-fits bytes 0 h, byte-fits bytes 1 h, byte-fits bytes 2 h, byte-fits bytes 3 h)

@@ -4,16 +4,16 @@ use Rattle.std.specs.Int.{w64, to_le_bytes}
 use Rattle.std.specs.List.{flat_map, range_with_len, AllByRecursion}
 use Rattle.std.proofs.lemmas.List.{length-append, drop_at}
 use Rattle.std.proofs.lemmas.List.FromFn.{length-map-range_with_len}
-use Rattle.rv_spec.specs.Words.{u64_at}
+use Rattle.rv_spec.specs.Words.{u64_at, AreBytes}
 use Rattle.rv_spec.specs.Digest.{set_digest_bytes}
 use Rattle.rv_spec.specs.Grammar.{AreNumbers}
 use Rattle.rv_rules.specs.Reading.{digest_of}
-use Rattle.rv_row.proofs.Lemmas.{IsBytes, wide64, field64, below64}
+use Rattle.rv_row.proofs.Lemmas.{wide64, field64, below64}
 
 abbrev lane_at : List ℕ → ℕ → ℕ
 lane_at bytes j = u64_at bytes (8 * j)
 
-lanes_take : (bytes : List ℕ) (i n : ℕ) → IsBytes bytes → 8 * (i + n) ≤ length bytes
+lanes_take : (bytes : List ℕ) (i n : ℕ) → AreBytes bytes → 8 * (i + n) ≤ length bytes
     → flat_map (to_le_bytes w64) (map (lane_at bytes) (range_with_len i n)) ++ drop (8 * (i + n)) bytes ≡ drop (8 * i) bytes
 lanes_take bytes i zero fits room = ap (λ k. drop (8 * k) bytes) (omega arith)
 lanes_take bytes i (suc n) fits room =
@@ -25,14 +25,14 @@ lanes_take bytes i (suc n) fits room =
     ∙ ap (λ (xs : List ℕ). to_le_bytes w64 (lane_at bytes i) ++ xs) others
     ∙ field64 bytes (8 * i) (8 * (i + 1)) fits (omega arith) (omega arith)
 
-pub digest_takes : (bytes : List ℕ) → IsBytes bytes → 128 ≤ length bytes → set_digest_bytes (digest_of bytes) ++ drop 128 bytes ≡ bytes
+pub digest_takes : (bytes : List ℕ) → AreBytes bytes → 128 ≤ length bytes → set_digest_bytes (digest_of bytes) ++ drop 128 bytes ≡ bytes
 digest_takes bytes fits room = lanes_take bytes 0 16 fits room
 
-lanes_fit : (bytes : List ℕ) (i n : ℕ) → IsBytes bytes → AllByRecursion (λ x. x < 2 ^ 64) (map (lane_at bytes) (range_with_len i n))
+lanes_fit : (bytes : List ℕ) (i n : ℕ) → AreBytes bytes → AllByRecursion (λ x. x < 2 ^ 64) (map (lane_at bytes) (range_with_len i n))
 lanes_fit bytes i zero fits = tt
 lanes_fit bytes i (suc n) fits = (below64 bytes (8 * i) fits, lanes_fit bytes (i + 1) n fits)
 
-pub digest_fits : (bytes : List ℕ) → IsBytes bytes → AreNumbers 16 64 (digest_of bytes)
+pub digest_fits : (bytes : List ℕ) → AreBytes bytes → AreNumbers 16 64 (digest_of bytes)
 digest_fits bytes fits = (length-map-range_with_len (lane_at bytes) 0 16, lanes_fit bytes 0 16 fits)
 
 lanes_again : (xs whole before rest : List ℕ) (i : ℕ) → AllByRecursion (λ x. x < 2 ^ 64) xs → length before ≡ 8 * i

@@ -12,7 +12,9 @@ use Rattle.rv_spec.specs.Record.{entry_bytes}
 use Rattle.rv_spec.specs.Grammar.{EntryFits, IsRising}
 use Rattle.rv_rules.specs.Reading.{entry_of, above, read_entry, read_entries}
 use Rattle.rv_rules.specs.Checks.{Check, ◌>>=◌}
-use Rattle.rv_row.proofs.Lemmas.{IsBytes, IsBytes-drop, wide32, wide64, field32, field64, below32, below64}
+use Rattle.rv_row.proofs.Lemmas.{wide32, wide64, field32, field64, below32, below64}
+use Rattle.rv_rules.proofs.Lemmas.{drop-bytes}
+use Rattle.rv_spec.specs.Words.{AreBytes}
 use Rattle.rv_row.proofs.Lemmas.{all_hold, hold}
 use Rattle.rv_file.proofs.Steps.{bind_ok, unless_ok, unless_holds, ok_is}
 
@@ -23,7 +25,7 @@ spell_entry e d16 d8 d4 d0 time value cell =
     ∙ ap (λ (xs : List ℕ). to_le_bytes w32 e.cell ++ xs) value
     ∙ cell
 
-pub entry_takes : (bytes : List ℕ) → IsBytes bytes → 16 ≤ length bytes → entry_bytes (entry_of bytes) ++ drop 16 bytes ≡ bytes
+pub entry_takes : (bytes : List ℕ) → AreBytes bytes → 16 ≤ length bytes → entry_bytes (entry_of bytes) ++ drop 16 bytes ≡ bytes
 entry_takes bytes fits room =
     spell_entry (entry_of bytes) (drop 16 bytes) (drop 8 bytes) (drop 4 bytes) bytes
     (field64 bytes 8 16 fits refl room) (field32 bytes 4 8 fits refl (omega arith)) (field32 bytes 0 4 fits refl (omega arith))
@@ -91,9 +93,9 @@ pub record EntriesTaken (n version : ℕ) (before : Option ℕ) (bytes : List �
   pub count : length x.0 ≡ n
   pub higher : AllAbove before (cells_of x.0)
   pub rising : IsRising (cells_of x.0)
-  pub rest : IsBytes x.1
+  pub rest : AreBytes x.1
 
-pub entries_taken : (n : ℕ) (h : Header) (j : ℕ) (before : Option ℕ) (bytes : List ℕ) (x : List TableEntry × List ℕ) → IsBytes bytes → read_entries n h j before bytes ≡ Ok x → EntriesTaken n h.version before bytes x
+pub entries_taken : (n : ℕ) (h : Header) (j : ℕ) (before : Option ℕ) (bytes : List ℕ) (x : List TableEntry × List ℕ) → AreBytes bytes → read_entries n h j before bytes ≡ Ok x → EntriesTaken n h.version before bytes x
 unfolding read_entries
 entries_taken zero h j before bytes x fits e =
     subst (λ (y : List TableEntry × List ℕ). EntriesTaken zero h.version before bytes y) (ok_is ([], bytes) x e) (record { spelled = refl; fits = tt; count = refl; higher = tt; rising = tt; rest = fits })
@@ -109,7 +111,7 @@ entries_taken (suc n) h j before bytes x fits e =
     let b = bind_ok (read_entries n h (j + 1) (Some (a.0.0).cell) a.0.1) (λ others. Ok (a.0.0 ∷ others.0, others.1)) x a.2 in
     let first_is : a.0 ≡ read = sym u.1 in
     let more = subst (λ (y : TableEntry × List ℕ). read_entries n h (j + 1) (Some (y.0).cell) y.1 ≡ Ok b.0 → EntriesTaken n h.version (Some t.cell) (drop 16 bytes) b.0)
-    u.1 (λ k. entries_taken n h (j + 1) (Some t.cell) (drop 16 bytes) b.0 (IsBytes-drop 16 bytes fits) k) b.1 in
+    u.1 (λ k. entries_taken n h (j + 1) (Some t.cell) (drop 16 bytes) b.0 (drop-bytes 16 bytes fits) k) b.1 in
     let behind = above_some t.cell (cells_of b.0.0) more.higher in
     let positive : 0 < t.time = ltb-true 0 t.time c4.0 in
     let below : t.time < 2 ^ 64 = below64 bytes 8 fits in

@@ -8,7 +8,7 @@ use Rattle.std.proofs.lemmas.List.{length-append, length-drop, length-take-le, t
 use Rattle.std.proofs.lemmas.Slice.Eq.{bytes_eq-Decides}
 use Rattle.rv_base.specs.declared.record.Header.{Header}
 use Rattle.rv_base.specs.declared.record.Refusal.{Refusal}
-use Rattle.rv_spec.specs.Words.{u32_at}
+use Rattle.rv_spec.specs.Words.{u32_at, AreBytes}
 use Rattle.rv_rules.specs.Sums.{tiny_lanes}
 use Rattle.rv_spec.specs.Record.{Shard, Parts, magic, header_bytes, shard_bytes, entry_bytes, table_bytes, file_bytes}
 use Rattle.rv_spec.specs.Grammar.{AreNumbers, HeaderFits, PartsFit, Spells}
@@ -17,7 +17,8 @@ use Rattle.rv_rules.specs.Reading.{Reading, header_of, read_entries, read_file, 
 use Rattle.rv_rules.specs.Checks.{Check, first_broken, unless_broken, ◌>>=◌}
 use Rattle.rv_rules.specs.Verdict.{parse}
 use Rattle.rv_rules.specs.Laws.{FormIsGrammar}
-use Rattle.rv_row.proofs.Lemmas.{IsBytes, IsBytes-drop, IsBytes-take, are_bytes, bytes_are, field32, below32, below64, wide32}
+use Rattle.rv_row.proofs.Lemmas.{field32, below32, below64, wide32}
+use Rattle.rv_rules.proofs.Lemmas.{drop-bytes, take-bytes}
 use Rattle.rv_row.proofs.Lemmas.{all_hold, hold}
 use Rattle.rv_file.proofs.Steps.{bind_ok, unless_ok, unless_holds, ok_is}
 use Rattle.rv_file.proofs.ShardLaws.{shards_in, shards_taken, shards_read}
@@ -74,9 +75,9 @@ version_in : (b : Bool) → IsInRange 1 2 (if b then 2 else 1)
 version_in true = (omega arith, omega arith)
 version_in false = (omega arith, omega arith)
 
-hash_fits : (file : List ℕ) (at : ℕ) → IsBytes file → at + 64 ≤ length file → AreNumbers 64 8 (take 64 (drop at file))
+hash_fits : (file : List ℕ) (at : ℕ) → AreBytes file → at + 64 ≤ length file → AreNumbers 64 8 (take 64 (drop at file))
 hash_fits file at fits room =
-    (length-take-le 64 (drop at file) (omega (arith, length-drop at file)), bytes_are (take 64 (drop at file)) (IsBytes-take 64 (drop at file) (IsBytes-drop at file fits)))
+    (length-take-le 64 (drop at file) (omega (arith, length-drop at file)), take-bytes 64 (drop at file) (drop-bytes at file fits))
 
 plain_holds : (a b : ℕ) → (a == 0 || b == 0) ≡ true → (a ≡ 0) ⊎ (b ≡ 0)
 plain_holds a b e = elim (or_cases (a == 0) (b == 0) e) [ inl x ↦ inl (eqb-true a 0 x) | inr y ↦ inr (eqb-true b 0 y) ]
@@ -85,7 +86,7 @@ plain_again : (a b : ℕ) → (a ≡ 0) ⊎ (b ≡ 0) → (a == 0 || b == 0) ≡
 plain_again a b (inl x) = or_left (a == 0) (b == 0) (eq-eqb a 0 x)
 plain_again a b (inr y) = or_right (a == 0) (b == 0) (eq-eqb b 0 y)
 
-pub header_good : (file : List ℕ) → IsBytes file → first_broken (all_checks file) ≡ None → HeaderGood file
+pub header_good : (file : List ℕ) → AreBytes file → first_broken (all_checks file) ≡ None → HeaderGood file
 header_good file fits e =
     let h = header_of file in
     let c1 = all_hold (1, is_long file) ((2, is_known file) ∷ from_3 file) e in
@@ -171,7 +172,7 @@ pub record FileTaken (file : List ℕ) (count : ℕ) (p : Parts) (left : List �
 join : (a b c d e rest : List ℕ) → a ++ (b ++ (c ++ (d ++ (e ++ rest)))) ≡ (((a ++ b) ++ c) ++ (d ++ e)) ++ rest
 join a b c d e rest = sym (simp append_assoc)
 
-pub chain_taken : {A : Type 0} (finish : ℕ → Parts → List ℕ → Result A Refusal) (file : List ℕ) (y : A) → IsBytes file → chain finish file ≡ Ok y
+pub chain_taken : {A : Type 0} (finish : ℕ → Parts → List ℕ → Result A Refusal) (file : List ℕ) (y : A) → AreBytes file → chain finish file ≡ Ok y
     → (count : ℕ) × (p : Parts) × (left : List ℕ) × FileTaken file count p left × (finish count p left ≡ Ok y)
 unfolding file_bytes table_bytes
 chain_taken finish file y fits e =
@@ -181,12 +182,12 @@ chain_taken finish file y fits e =
     let a = bind_ok (unless_broken 0 0 (all_checks file) body) (after_header finish h) y e in
     let u = unless_ok 0 0 (all_checks file) body a.0 a.1 in
     let good = header_good file fits u.0 in
-    let body_fits = IsBytes-drop 173 file fits in
+    let body_fits = drop-bytes 173 file fits in
     let go : after_header finish h body ≡ Ok y = ap (λ (xs : List ℕ). after_header finish h xs) u.1 ∙ a.2 in
     let output = take h.length body in
     let rest = drop h.length body in
     let b = bind_ok (shards_in h.shards h output 0 place rest) (after_shards finish h output) y go in
-    let shards = shards_taken h.shards h output 0 place rest b.0 (IsBytes-drop h.length body body_fits) b.1 in
+    let shards = shards_taken h.shards h output 0 place rest b.0 (drop-bytes h.length body body_fits) b.1 in
     let left = b.0.left in
     let c = bind_ok (unless_broken h.shards 0 ((1, nat_le 4 (length left)) ∷ []) (drop 4 left)) (after_count finish h output b.0) y b.2 in
     let v = unless_ok h.shards 0 ((1, nat_le 4 (length left)) ∷ []) (drop 4 left) c.0 c.1 in
@@ -194,7 +195,7 @@ chain_taken finish file y fits e =
     let went : after_count finish h output b.0 (drop 4 left) ≡ Ok y = ap (λ (xs : List ℕ). after_count finish h output b.0 xs) v.1 ∙ c.2 in
     let count = u32_at left 0 in
     let d = bind_ok (read_entries count h 0 None (drop 4 left)) (λ entries. finish count (record { header = h; output = output; shards = b.0.part; table = entries.0 }) entries.1) y went in
-    let entries = entries_taken count h 0 None (drop 4 left) d.0 (IsBytes-drop 4 left shards.rest) d.1 in
+    let entries = entries_taken count h 0 None (drop 4 left) d.0 (drop-bytes 4 left shards.rest) d.1 in
     let p : Parts = record { header = h; output = output; shards = b.0.part; table = d.0.0 } in
     let table = flat_map entry_bytes d.0.0 in
     let number : to_le_bytes w32 (length d.0.0) ++ drop 4 left ≡ left = ap (λ n. to_le_bytes w32 n ++ drop 4 left) entries.count ∙ field32 left 0 4 shards.rest refl there in
@@ -214,7 +215,7 @@ chain_taken finish file y fits e =
         spelled = spelled;
         fit = record {
           header = good.fits;
-          output = (length-take-le h.length body (omega (arith, length-drop 173 file, good.room)), bytes_are output (IsBytes-take h.length body body_fits));
+          output = (length-take-le h.length body (omega (arith, length-drop 173 file, good.room)), take-bytes h.length body body_fits);
           count = shards.count;
           shards = shards.fits;
           entries = entries.fits;
@@ -272,7 +273,7 @@ chain_again finish p rest fit =
     ∙ (λ t. read_entries (count_is t) h 0 None entries >>= λ es. finish (count_is t) (record { header = h; output = p.output; shards = p.shards; table = es.0 }) es.1)
     ∙ ap (λ r. r >>= λ es. finish (length p.table) (record { header = h; output = p.output; shards = p.shards; table = es.0 }) es.1) entries_are
 
-pub is_spelled : (file : List ℕ) (p : Parts) → IsBytes file → parse file ≡ Ok p → Spells p file
+pub is_spelled : (file : List ℕ) (p : Parts) → AreBytes file → parse file ≡ Ok p → Spells p file
 is_spelled file p fits e =
     let k = chain_taken ends_parse file p fits (sym (parse_is file) ∙ e) in
     let q = k.1 in
@@ -291,7 +292,7 @@ is_parsed file p spells =
     ∙ chain_again ends_parse p [] spells.fit
 
 pub form_is_grammar : FormIsGrammar
-form_is_grammar file p fits = (λ e. is_spelled file p (are_bytes file fits) e, λ s. is_parsed file p s)
+form_is_grammar file p fits = (λ e. is_spelled file p fits e, λ s. is_parsed file p s)
 
 abbrev parts_and_left : ℕ → Parts → List ℕ → Result (Parts × List ℕ) Refusal
 parts_and_left count p left = Ok (p, left)

@@ -9,13 +9,10 @@ use Rattle.rv_spec.specs.Record.{magic}
 use Rattle.rv_rules.specs.Reading.{header_of}
 use Rattle.rv_rules.specs.Checks.{Check, first_broken}
 use Rattle.rv_row.proofs.Lemmas.{all_hold}
+use Rattle.rv_rules.proofs.Lemmas.{or_false}
 use Rattle.rv_file.specs.Front.{is_record}
-use Rattle.rv_file.specs.Skipping.{number_checks}
+use Rattle.rv_rules.specs.Reading.{number_checks}
 use Rattle.rv_file.proofs.FileLaws.{all_checks, from_3, from_8, from_7, from_6, is_long, is_known, output_there, output_holds, end_holds, counts_hold, size_holds}
-
-or_false : (b : Bool) → (b || false) ≡ b
-or_false true = refl
-or_false false = refl
 
 -- the eighth byte of a magic
 eighth : (bytes : List ℕ) (version : ℕ) → take 8 bytes ≡ magic version → get_or bytes 7 0 ≡ 0x30 + version

@@ -8,7 +8,8 @@ use Rattle.rv_base.specs.declared.record.Header.{Header}
 use Rattle.rv_spec.specs.Record.{magic, header_bytes}
 use Rattle.rv_spec.specs.Grammar.{HeaderFits}
 use Rattle.rv_rules.specs.Reading.{header_of}
-use Rattle.rv_row.proofs.Lemmas.{IsBytes, wide32, wide64, field32, field64, byte_at_front}
+use Rattle.rv_row.proofs.Lemmas.{wide32, wide64, field32, field64, byte_at_front}
+use Rattle.rv_spec.specs.Words.{AreBytes}
 use Rattle.rv_file.specs.Front.{with_numbers}
 
 numbers_behind : (front : List ℕ) (h : Header) (rest : List ℕ) → with_numbers front h ++ rest ≡ front ++ (with_numbers [] h ++ rest)
@@ -35,7 +36,7 @@ part bytes at n end ends =
     ap (λ (xs : List ℕ). take n (drop at bytes) ++ xs) (ap (λ k. drop k bytes) (sym ends) ∙ sym (drop-drop n at bytes))
     ∙ take-append-drop n (drop at bytes)
 
-pub header_takes : (bytes : List ℕ) → IsBytes bytes → 173 ≤ length bytes → take 8 bytes ≡ magic (header_of bytes).version → header_bytes (header_of bytes) ++ drop 173 bytes ≡ bytes
+pub header_takes : (bytes : List ℕ) → AreBytes bytes → 173 ≤ length bytes → take 8 bytes ≡ magic (header_of bytes).version → header_bytes (header_of bytes) ++ drop 173 bytes ≡ bytes
 unfolding header_bytes
 header_takes bytes fits room known =
     let h = header_of bytes in

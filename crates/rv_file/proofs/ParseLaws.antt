@@ -9,13 +9,14 @@ use Rattle.rv_base.specs.declared.record.Refusal.{Refusal}
 use Rattle.rv_base.specs.declared.record.ShardHead.{ShardHead}
 use Rattle.rv_base.specs.declared.record.TableEntry.{TableEntry}
 use Rattle.rv_spec.specs.Trace.{Row}
-use Rattle.rv_spec.specs.Words.{u32_at}
+use Rattle.rv_spec.specs.Words.{u32_at, AreBytes}
 use Rattle.rv_rules.specs.Sums.{tiny_lanes}
 use Rattle.rv_spec.specs.Record.{Shard, Parts, row_bytes, rows_length, shard_rows}
 use Rattle.rv_rules.specs.Reading.{Reading, header_of, head_of, row_of, row_form, read_row, read_rows, read_shard, read_shards, read_entry, read_entries, first_place}
 use Rattle.rv_rules.specs.Checks.{first_broken, refused_by, unless_broken, ◌>>=◌}
 use Rattle.rv_rules.specs.Verdict.{parse}
-use Rattle.rv_row.proofs.Lemmas.{IsBytes, IsBytes-drop}
+use Rattle.rv_rules.proofs.Lemmas.{drop-bytes}
+use Rattle.rv_rules.proofs.Lemmas.{and_true}
 use Rattle.rv_file.specs.Skipping.{row_left, rows_left, digests_left, shard_left, shards_left, entries_left, form_left}
 use Rattle.rv_spec.specs.Grammar.{Spells}
 use Rattle.rv_file.specs.Parsing.{parts_or_none, parts_of, RepresentsFile}
@@ -59,16 +60,12 @@ rows_left_is (suc n) h output i r p bytes =
 
 -- ---- a shard
 
-and_true : (b : Bool) → (b && true) ≡ b
-and_true true = refl
-and_true false = refl
-
 last_holds : (a b : Bool) → first_broken ((20, a) ∷ (1, b) ∷ (21, true) ∷ []) ≡ first_broken ((20, a) ∷ (1, b) ∷ [])
 last_holds true true = refl
 last_holds true false = refl
 last_holds false b = refl
 
-ends_left : (n : ℕ) (h : Header) (output : List ℕ) (i : ℕ) (p : Place) (next : List ℕ) (head : ShardHead) (r : Result (Reading (List Row)) Refusal) → IsBytes next → rows_in n h output i 0 p next ≡ r
+ends_left : (n : ℕ) (h : Header) (output : List ℕ) (i : ℕ) (p : Place) (next : List ℕ) (head : ShardHead) (r : Result (Reading (List Row)) Refusal) → AreBytes next → rows_in n h output i 0 p next ≡ r
     → left_of (r >>= ends i n head) ≡ (left_of r >>= λ left. digests_left i n head (length next - length left) left)
 ends_left n h output i p next head (Ok x) fits e =
     let taken = rows_taken n h output i 0 p next x fits e in
@@ -86,7 +83,7 @@ head_then : {A : Type 0} (i : ℕ) (o : Option ℕ) (next : List ℕ) (f : List 
 head_then i None next f g same = same
 head_then i (Some rule) next f g same = refl
 
-pub shard_left_is : (h : Header) (output : List ℕ) (i : ℕ) (p : Place) (bytes : List ℕ) → IsBytes bytes → left_of (shard_in h output i p bytes) ≡ shard_left h i bytes
+pub shard_left_is : (h : Header) (output : List ℕ) (i : ℕ) (p : Place) (bytes : List ℕ) → AreBytes bytes → left_of (shard_in h output i p bytes) ≡ shard_left h i bytes
 unfolding read_shard shard_left
 shard_left_is h output i p bytes fits =
     let n = shard_rows h.size h.steps i in
@@ -96,22 +93,22 @@ shard_left_is h output i p bytes fits =
     let g : List ℕ → Result (List ℕ) Refusal = λ xs. rows_left n i 0 xs >>= λ left. digests_left i n head (length xs - length left) left in
     let there = nat_le 32 (length bytes) in
     let same : left_of (f next) ≡ g next =
-    ends_left n h output i p next head (rows_in n h output i 0 p next) (IsBytes-drop 32 bytes fits) refl
+    ends_left n h output i p next head (rows_in n h output i 0 p next) (drop-bytes 32 bytes fits) refl
     ∙ ap (λ (x : Result (List ℕ) Refusal). x >>= λ left. digests_left i n head (length next - length left) left) (rows_left_is n h output i 0 p next) in
     head_then i (first_broken ((1, there) ∷ (9, agrees i n head) ∷ [])) next f g same
     ∙ ap (λ b. unless_broken i 0 ((1, there) ∷ (9, b) ∷ []) next >>= g) (and_true (head.index == i && head.rows == n))
 
 -- ---- shards
 
-shards_step : (n : ℕ) (h : Header) (output : List ℕ) (i : ℕ) (p : Place) (bytes : List ℕ) (r : Result (Reading Shard) Refusal) → IsBytes bytes → shard_in h output i p bytes ≡ r
-    → ((q : Place) (xs : List ℕ) → IsBytes xs → left_of (shards_in n h output (i + 1) q xs) ≡ shards_left n h (i + 1) xs)
+shards_step : (n : ℕ) (h : Header) (output : List ℕ) (i : ℕ) (p : Place) (bytes : List ℕ) (r : Result (Reading Shard) Refusal) → AreBytes bytes → shard_in h output i p bytes ≡ r
+    → ((q : Place) (xs : List ℕ) → AreBytes xs → left_of (shards_in n h output (i + 1) q xs) ≡ shards_left n h (i + 1) xs)
     → left_of (r >>= λ first. shards_in n h output (i + 1) first.place first.left >>= λ others. Ok (with_shard first others)) ≡ (left_of r >>= λ left. shards_left n h (i + 1) left)
 shards_step n h output i p bytes (Ok x) fits e more =
     left_with (shards_in n h output (i + 1) x.place x.left) (λ others. with_shard x others) (λ y. refl)
     ∙ more x.place x.left (shard_taken h output i p bytes x fits e).rest
 shards_step n h output i p bytes (Err f) fits e more = refl
 
-shards_left_is : (n : ℕ) (h : Header) (output : List ℕ) (i : ℕ) (p : Place) (bytes : List ℕ) → IsBytes bytes → left_of (shards_in n h output i p bytes) ≡ shards_left n h i bytes
+shards_left_is : (n : ℕ) (h : Header) (output : List ℕ) (i : ℕ) (p : Place) (bytes : List ℕ) → AreBytes bytes → left_of (shards_in n h output i p bytes) ≡ shards_left n h i bytes
 unfolding read_shards shards_left
 shards_left_is zero h output i p bytes fits = refl
 shards_left_is (suc n) h output i p bytes fits =
@@ -170,7 +167,7 @@ closes : (b : Bool) (count : ℕ) (p : Parts) → length p.table ≡ count
 closes true count p e = λ i. Ok (p.header, e i)
 closes false count p e = refl
 
-pub form_is : (file : List ℕ) → IsBytes file → summary (parse file) ≡ form_left file
+pub form_is : (file : List ℕ) → AreBytes file → summary (parse file) ≡ form_left file
 unfolding form_left
 form_is file fits =
     let h = header_of file in
@@ -178,7 +175,7 @@ form_is file fits =
     let place = first_place false tiny_lanes [] [] h in
     let output = take h.length body in
     let shards = drop h.length body in
-    let shards_fit = IsBytes-drop h.length body (IsBytes-drop 173 file fits) in
+    let shards_fit = drop-bytes h.length body (drop-bytes 173 file fits) in
     let ended : List ℕ → List ℕ → Result (Header × ℕ) Refusal = λ table left. unless_broken h.shards (u32_at table 0) ((27, length left == 0) ∷ []) (h, u32_at table 0) in
     let counted : List ℕ → List ℕ → Result (Header × ℕ) Refusal = λ table entries. entries_left (u32_at table 0) h 0 None entries >>= ended table in
     let tabled : List ℕ → Result (Header × ℕ) Refusal = λ table. unless_broken h.shards 0 ((1, nat_le 4 (length table)) ∷ []) (drop 4 table) >>= counted table in
@@ -187,7 +184,7 @@ form_is file fits =
     let taken = shards_taken h.shards h output 0 place shards x shards_fit e in
     let count = u32_at x.left 0 in
     through_entries (read_entries count h 0 None (drop 4 x.left)) (λ es. ends_parse count (record { header = h; output = output; shards = x.part; table = es.0 }) es.1) (ended x.left)
-    (λ es k. closes (length es.1 == 0) count (record { header = h; output = output; shards = x.part; table = es.0 }) (entries_taken count h 0 None (drop 4 x.left) es (IsBytes-drop 4 x.left taken.rest) k).count)
+    (λ es k. closes (length es.1 == 0) count (record { header = h; output = output; shards = x.part; table = es.0 }) (entries_taken count h 0 None (drop 4 x.left) es (drop-bytes 4 x.left taken.rest) k).count)
     ∙ ap (λ (r : Result (List ℕ) Refusal). r >>= ended x.left) (entries_left_is count h 0 None (drop 4 x.left)) in
     let at_shards : summary (after_header ends_parse h body) ≡ (shards_left h.shards h 0 shards >>= tabled) =
     through (shards_in h.shards h output 0 place shards) (after_shards ends_parse h output) tabled
@@ -210,19 +207,19 @@ summary_ok (Ok p) h n same =
     (p, refl, sym (ap (λ (x : Header × ℕ). x.0) both), sym (ap (λ (x : Header × ℕ). x.1) both))
 summary_ok (Err f) h n same = absurd cc
 
-pub form_err : (file : List ℕ) (e : Refusal) → IsBytes file → form_left file ≡ Err e → parse file ≡ Err e
+pub form_err : (file : List ℕ) (e : Refusal) → AreBytes file → form_left file ≡ Err e → parse file ≡ Err e
 form_err file e fits is = summary_err (parse file) e (form_is file fits ∙ is)
 
 parts_are : (file : List ℕ) (p : Parts) → parse file ≡ Ok p → parts_of file ≡ p
 unfolding parts_of
 parts_are file p e = ap parts_or_none e
 
-pub form_ok : (file : List ℕ) (h : Header) (n : ℕ) → IsBytes file → form_left file ≡ Ok (h, n) → parse file ≡ Ok (parts_of file)
+pub form_ok : (file : List ℕ) (h : Header) (n : ℕ) → AreBytes file → form_left file ≡ Ok (h, n) → parse file ≡ Ok (parts_of file)
 form_ok file h n fits is =
     let s = summary_ok (parse file) h n (form_is file fits ∙ is) in
     s.1 ∙ (λ i. Ok (sym (parts_are file s.0 s.1) i))
 
-pub form_shows : (file : List ℕ) (h : Header) (n : ℕ) → IsBytes file → form_left file ≡ Ok (h, n) → RepresentsFile file h n
+pub form_shows : (file : List ℕ) (h : Header) (n : ℕ) → AreBytes file → form_left file ≡ Ok (h, n) → RepresentsFile file h n
 form_shows file h n fits is =
     let s = summary_ok (parse file) h n (form_is file fits ∙ is) in
     let p_is = sym (parts_are file s.0 s.1) in
@@ -232,10 +229,10 @@ form_shows file h n fits is =
       count = s.3 ∙ ap (λ (p : Parts). length p.table) p_is;
     }
 
-pub form_only : (file : List ℕ) (h : Header) (n : ℕ) → IsBytes file → form_left file ≡ Ok (h, n) → (p : Parts) → Spells p file → parts_of file ≡ p
+pub form_only : (file : List ℕ) (h : Header) (n : ℕ) → AreBytes file → form_left file ≡ Ok (h, n) → (p : Parts) → Spells p file → parts_of file ≡ p
 form_only file h n fits is p spells = parts_are file p (is_parsed file p spells)
 
-pub err_only : (file : List ℕ) (e : Refusal) → IsBytes file → form_left file ≡ Err e → (p : Parts) → Spells p file → ⊥
+pub err_only : (file : List ℕ) (e : Refusal) → AreBytes file → form_left file ≡ Err e → (p : Parts) → Spells p file → ⊥
 err_only file e fits is p spells =
     let refused = form_err file e fits is in
     let read = is_parsed file p spells in

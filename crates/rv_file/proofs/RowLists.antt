@@ -11,7 +11,8 @@ use Rattle.rv_spec.specs.Record.{row_bytes, rows_length}
 use Rattle.rv_spec.specs.Grammar.{RowFits}
 use Rattle.rv_rules.specs.Reading.{Reading, row_of, row_form, read_row, read_rows}
 use Rattle.rv_rules.specs.Checks.{◌>>=◌}
-use Rattle.rv_row.proofs.Lemmas.{IsBytes, IsBytes-drop}
+use Rattle.rv_rules.proofs.Lemmas.{drop-bytes}
+use Rattle.rv_spec.specs.Words.{AreBytes}
 use Rattle.rv_row.proofs.Lemmas.{row_takes, row_fits, row_again, good_form, form_holds, good_again, length-row_bytes}
 use Rattle.rv_file.proofs.Steps.{bind_ok, unless_ok, unless_holds, ok_is}
 
@@ -24,9 +25,9 @@ rows_in n h output i r p bytes = read_rows false tiny_lanes [] [] n h output i r
 record RowTaken (bytes : List ℕ) (x : Reading Row) : Type 0 where
   pub spelled : bytes ≡ row_bytes x.part ++ x.left
   pub fits : RowFits x.part
-  pub rest : IsBytes x.left
+  pub rest : AreBytes x.left
 
-row_taken : (h : Header) (output : List ℕ) (i r : ℕ) (p : Place) (bytes : List ℕ) (x : Reading Row) → IsBytes bytes → row_in h output i r p bytes ≡ Ok x → RowTaken bytes x
+row_taken : (h : Header) (output : List ℕ) (i r : ℕ) (p : Place) (bytes : List ℕ) (x : Reading Row) → AreBytes bytes → row_in h output i r p bytes ≡ Ok x → RowTaken bytes x
 unfolding read_row
 row_taken h output i r p bytes x fits e =
     let n = 9 + 21 * get_or bytes 8 0 in
@@ -36,19 +37,19 @@ row_taken h output i r p bytes x fits e =
     subst (λ (y : Reading Row). RowTaken bytes y) u.1 (record {
       spelled = sym (row_takes bytes fits good.room);
       fits = row_fits bytes fits good.count;
-      rest = IsBytes-drop n bytes fits;
+      rest = drop-bytes n bytes fits;
     })
 
 pub record RowsTaken (n : ℕ) (bytes : List ℕ) (x : Reading (List Row)) : Type 0 where
   pub spelled : bytes ≡ flat_map row_bytes x.part ++ x.left
   pub fits : AllByRecursion RowFits x.part
   pub count : length x.part ≡ n
-  pub rest : IsBytes x.left
+  pub rest : AreBytes x.left
 
 abbrev pub with_row : Reading Row → Reading (List Row) → Reading (List Row)
 with_row first others = record { part = first.part ∷ others.part; place = others.place; left = others.left }
 
-pub rows_taken : (n : ℕ) (h : Header) (output : List ℕ) (i r : ℕ) (p : Place) (bytes : List ℕ) (x : Reading (List Row)) → IsBytes bytes → rows_in n h output i r p bytes ≡ Ok x → RowsTaken n bytes x
+pub rows_taken : (n : ℕ) (h : Header) (output : List ℕ) (i r : ℕ) (p : Place) (bytes : List ℕ) (x : Reading (List Row)) → AreBytes bytes → rows_in n h output i r p bytes ≡ Ok x → RowsTaken n bytes x
 unfolding read_rows
 rows_taken zero h output i r p bytes x fits e =
     let none : Reading (List Row) = record { part = []; place = p; left = bytes } in

@@ -15,7 +15,9 @@ use Rattle.rv_spec.specs.Record.{Shard, head_bytes, row_bytes, shard_bytes, rows
 use Rattle.rv_spec.specs.Grammar.{RowFits, ShardFits, ShardsFit}
 use Rattle.rv_rules.specs.Reading.{Reading, head_of, digest_of, read_shard, read_shards}
 use Rattle.rv_rules.specs.Checks.{unless_broken, ◌>>=◌}
-use Rattle.rv_row.proofs.Lemmas.{IsBytes, IsBytes-drop, wide32, wide64, field32, field64, below32, below64}
+use Rattle.rv_row.proofs.Lemmas.{wide32, wide64, field32, field64, below32, below64}
+use Rattle.rv_rules.proofs.Lemmas.{drop-bytes}
+use Rattle.rv_spec.specs.Words.{AreBytes}
 use Rattle.rv_row.proofs.Lemmas.{all_hold, hold}
 use Rattle.rv_file.proofs.Steps.{bind_ok, unless_ok, unless_holds, ok_is}
 use Rattle.rv_file.proofs.Cells.{digest_takes, digest_fits, digest_again, length-digest_bytes}
@@ -39,7 +41,7 @@ spell_head h d32 d28 d20 d12 d8 d4 d0 bytes output input pc rows index =
     ∙ ap (λ (xs : List ℕ). to_index ++ xs) rows
     ∙ index
 
-pub head_takes : (bytes : List ℕ) → IsBytes bytes → 32 ≤ length bytes → head_bytes (head_of bytes) ++ drop 32 bytes ≡ bytes
+pub head_takes : (bytes : List ℕ) → AreBytes bytes → 32 ≤ length bytes → head_bytes (head_of bytes) ++ drop 32 bytes ≡ bytes
 head_takes bytes fits room =
     spell_head (head_of bytes) (drop 32 bytes) (drop 28 bytes) (drop 20 bytes) (drop 12 bytes) (drop 8 bytes) (drop 4 bytes) bytes
     (field32 bytes 28 32 fits refl room) (field64 bytes 20 28 fits refl (omega arith)) (field64 bytes 12 20 fits refl (omega arith))
@@ -97,12 +99,12 @@ ends i n head rows = unless_broken i n ((20, eqb (rows_length rows.part) head.by
 pub record ShardTaken (h : Header) (i : ℕ) (bytes : List ℕ) (x : Reading Shard) : Type 0 where
   pub spelled : bytes ≡ shard_bytes x.part ++ x.left
   pub fits : ShardFits h i x.part
-  pub rest : IsBytes x.left
+  pub rest : AreBytes x.left
 
 join : (a b c d rest : List ℕ) → a ++ (b ++ (c ++ (d ++ rest))) ≡ (((a ++ b) ++ c) ++ d) ++ rest
 join a b c d rest = sym (simp append_assoc)
 
-pub shard_taken : (h : Header) (output : List ℕ) (i : ℕ) (p : Place) (bytes : List ℕ) (x : Reading Shard) → IsBytes bytes → shard_in h output i p bytes ≡ Ok x → ShardTaken h i bytes x
+pub shard_taken : (h : Header) (output : List ℕ) (i : ℕ) (p : Place) (bytes : List ℕ) (x : Reading Shard) → AreBytes bytes → shard_in h output i p bytes ≡ Ok x → ShardTaken h i bytes x
 unfolding read_shard shard_bytes
 shard_taken h output i p bytes x fits e =
     let n = shard_rows h.size h.steps i in
@@ -114,14 +116,14 @@ shard_taken h output i p bytes x fits e =
     let both = and_parts (eqb head.index i) (eqb head.rows n) (and_parts (eqb head.index i && eqb head.rows n) true c2.0).0 in
     let rows_is : head.rows ≡ n = eqb-true head.rows n both.1 in
     let b = bind_ok (rows_in n h output i 0 p a.0) (ends i n head) x a.2 in
-    let rs = rows_taken n h output i 0 p a.0 b.0 (subst (λ (xs : List ℕ). IsBytes xs) u.1 (IsBytes-drop 32 bytes fits)) b.1 in
+    let rs = rows_taken n h output i 0 p a.0 b.0 (subst (λ (xs : List ℕ). AreBytes xs) u.1 (drop-bytes 32 bytes fits)) b.1 in
     let left = b.0.left in
     let v = unless_ok i n ((20, eqb (rows_length b.0.part) head.bytes) ∷ (1, leb 256 (length left)) ∷ (21, true) ∷ []) (made head b.0) x b.2 in
     let d1 = all_hold (20, eqb (rows_length b.0.part) head.bytes) ((1, leb 256 (length left)) ∷ (21, true) ∷ []) v.0 in
     let d2 = all_hold (1, leb 256 (length left)) ((21, true) ∷ []) d1.1 in
     let room : 256 ≤ length left = leb-true 256 (length left) d2.0 in
     let second = drop 128 left in
-    let second_fits = IsBytes-drop 128 left rs.rest in
+    let second_fits = drop-bytes 128 left rs.rest in
     let reads = digest_takes left rs.rest (omega arith) in
     let writes = digest_takes second second_fits (omega (arith, length-drop 128 left)) in
     let last : drop 128 second ≡ drop 256 left = drop-drop 128 128 left in
@@ -145,7 +147,7 @@ shard_taken h output i p bytes x fits e =
         reads = digest_fits left rs.rest;
         writes = digest_fits second second_fits;
       };
-      rest = IsBytes-drop 256 left rs.rest;
+      rest = drop-bytes 256 left rs.rest;
     })
 
 pub shard_read : (s : Shard) (h : Header) (output : List ℕ) (i : ℕ) (p : Place) (rest : List ℕ) → HeadFits s.head → ShardFits h i s
@@ -194,12 +196,12 @@ pub record ShardsTaken (n : ℕ) (h : Header) (i : ℕ) (bytes : List ℕ) (x : 
   pub spelled : bytes ≡ flat_map shard_bytes x.part ++ x.left
   pub fits : ShardsFit h i x.part
   pub count : length x.part ≡ n
-  pub rest : IsBytes x.left
+  pub rest : AreBytes x.left
 
 abbrev pub with_shard : Reading Shard → Reading (List Shard) → Reading (List Shard)
 with_shard first others = record { part = first.part ∷ others.part; place = others.place; left = others.left }
 
-pub shards_taken : (n : ℕ) (h : Header) (output : List ℕ) (i : ℕ) (p : Place) (bytes : List ℕ) (x : Reading (List Shard)) → IsBytes bytes → shards_in n h output i p bytes ≡ Ok x → ShardsTaken n h i bytes x
+pub shards_taken : (n : ℕ) (h : Header) (output : List ℕ) (i : ℕ) (p : Place) (bytes : List ℕ) (x : Reading (List Shard)) → AreBytes bytes → shards_in n h output i p bytes ≡ Ok x → ShardsTaken n h i bytes x
 unfolding read_shards
 shards_taken zero h output i p bytes x fits e =
     let none : Reading (List Shard) = record { part = []; place = p; left = bytes } in

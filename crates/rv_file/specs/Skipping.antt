@@ -19,15 +19,6 @@ abbrev pub IsViewOf : {X Y : Type 0} → (X → Y) → Result X Refusal → Resu
 IsViewOf view (Ok x) read = read ≡ Ok (view x)
 IsViewOf view (Err e) read = read ≡ Err e
 
--- the checks of a header's numbers
-abbrev pub number_checks : Header → List Check
-number_checks h =
-    (SHARD_SIZE, is_in_range 1 SHARD_SIZE_LIMIT h.size)
-    ∷ (COUNTS, nat_le 1 h.steps && h.shards == div_ceil h.steps h.size && nat_le h.shards SHARDS_LIMIT)
-    ∷ (END_KIND, nat_le h.end.kind MISALIGNED_STORE && (h.end.kind == EXIT || h.end.code == 0))
-    ∷ (OUTPUT_LENGTH, nat_le h.length OUTPUT_LIMIT)
-    ∷ []
-
 -- behind row r of shard i
 abbrev pub row_left : ℕ → ℕ → List ℕ → Result (List ℕ) Refusal
 row_left i r bytes = unless_broken i r (row_form bytes) (drop (row_size bytes) bytes)

@@ -7,7 +7,8 @@ ghost use Rattle.rv_rules.specs.Sums.{tiny_lanes};
 ghost use Rattle.rv_rules.specs.Reading.{header_of, header_checks, head_of, entry_of};
 ghost use Rattle.rv_rules.specs.Checks.{first_broken, unless_broken};
 ghost use Rattle.rv_rules.specs.Verdict.{parse as parse_of};
-ghost use Rattle.rv_file.specs.Skipping.{IsViewOf, number_checks, form_left};
+ghost use Rattle.rv_file.specs.Skipping.{IsViewOf, form_left};
+ghost use Rattle.rv_rules.specs.Reading.{number_checks};
 ghost use Rattle.rv_file.specs.Parsing.{behind_shards, HoldsShards};
 
 use crate::header::{header_fields, is_known};

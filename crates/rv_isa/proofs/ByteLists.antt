@@ -4,29 +4,11 @@ use Rattle.std.proofs.lemmas.List.{length-take, length-drop, length-append, leng
 use Rattle.std.proofs.lemmas.Nat.{le_bytes_4}
 use Rattle.std.specs.Int.{w32, from_le_bytes, to_le_bytes}
 use Rattle.rv_spec.specs.Words.{AreBytes}
+use Rattle.rv_rules.proofs.Lemmas.{take-bytes, drop-bytes, append-bytes}
 use Rattle.rv_isa.proofs.WordRanges.{index-below}
-
-pub take-bytes : (k : ℕ) (xs : List ℕ) → AreBytes xs → AreBytes (take k xs)
-take-bytes zero xs h = tt
-take-bytes (suc k) [] h = tt
-take-bytes (suc k) (x ∷ xs) h = (h.0, take-bytes k xs h.1)
-
-pub drop-bytes : (k : ℕ) (xs : List ℕ) → AreBytes xs → AreBytes (drop k xs)
-drop-bytes zero xs h = h
-drop-bytes (suc k) [] h = tt
-drop-bytes (suc k) (x ∷ xs) h = drop-bytes k xs h.1
 
 pub word-bytes : (v : ℕ) → AreBytes (to_le_bytes w32 v)
 word-bytes v = (omega arith, (omega arith, (omega arith, (omega arith, tt))))
-
--- a list of bytes, index by index
-pub bytes-are : (bytes : List ℕ) → ((i : ℕ) → get_or bytes i 0 < 2 ^ 8) → AreBytes bytes
-bytes-are [] fits = tt
-bytes-are (b ∷ bytes) fits = (fits 0, bytes-are bytes (λ i. fits (suc i)))
-
-pub append-bytes : (xs ys : List ℕ) → AreBytes xs → AreBytes ys → AreBytes (xs ++ ys)
-append-bytes [] ys h k = k
-append-bytes (x ∷ xs) ys h k = (h.0, append-bytes xs ys h.1 k)
 
 zero-bytes : (n : ℕ) → AreBytes (replicate n 0)
 zero-bytes zero = tt

@@ -10,7 +10,7 @@ use Rattle.rv_spec.specs.Step.{State, Transition, Next, Ends, register, within_w
 use Rattle.rv_rules.specs.Agreement.{IsState}
 use Rattle.rv_isa.specs.Ranges.{EndFits}
 use Rattle.rv_isa.proofs.WordRanges.{register-fits}
-use Rattle.rv_isa.proofs.ByteLists.{append-bytes}
+use Rattle.rv_rules.proofs.Lemmas.{append-bytes}
 
 -- a step takes four bytes at most, puts bytes, and ends with an end in its ranges
 abbrev pub TurnFits : State → Transition → Type 0

@@ -9,10 +9,10 @@ use Rattle.rv_rules.specs.Checks.{first_broken}
 use Rattle.rv_row.specs.declared.rows.RowRead.{RowRead}
 use Rattle.rv_row.specs.declared.rows.RowRead.TheVariants as read
 use Rattle.rv_row.specs.RowReading.{ReadsRow, SpellsRow, IsRow, OneRow}
-use Rattle.rv_row.proofs.Numbers.{IsBytes}
+use Rattle.rv_spec.specs.Words.{AreBytes}
 use Rattle.rv_row.proofs.RowLaws.{row_takes, row_fits, row_again, good_form, form_holds, good_again}
 
-pub is_spelled : (bytes : List ℕ) (answer : RowRead) → IsBytes bytes → ReadsRow bytes answer → SpellsRow bytes answer
+pub is_spelled : (bytes : List ℕ) (answer : RowRead) → AreBytes bytes → ReadsRow bytes answer → SpellsRow bytes answer
 is_spelled bytes (read.Row r n) fits exact =
     let good = good_form bytes exact.0 in
     (rw exact.1 (row_fits bytes fits good.count), rw (exact.1, exact.2) (sym (row_takes bytes fits good.room)))

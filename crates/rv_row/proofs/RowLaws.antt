@@ -11,7 +11,9 @@ use Rattle.rv_spec.specs.Record.{access_bytes, row_bytes}
 use Rattle.rv_spec.specs.Grammar.{AccessFits, RowFits}
 use Rattle.rv_rules.specs.Reading.{access_of, row_of, row_form}
 use Rattle.rv_rules.specs.Checks.{Check, first_broken}
-use Rattle.rv_row.proofs.Numbers.{IsBytes, IsBytes-drop, wide32, wide64, field32, field64, below32, below64, byte_at_front}
+use Rattle.rv_row.proofs.Numbers.{wide32, wide64, field32, field64, below32, below64, byte_at_front}
+use Rattle.rv_rules.proofs.Lemmas.{byte-fits, drop-bytes}
+use Rattle.rv_spec.specs.Words.{AreBytes}
 
 -- ---- one access
 
@@ -24,15 +26,15 @@ spell_access a d21 d17 d9 d5 d1 new prev old cell =
     ∙ ap (λ (xs : List ℕ). a.slot ∷ (to_le_bytes w32 a.cell ++ xs)) old
     ∙ ap (λ (xs : List ℕ). a.slot ∷ xs) cell
 
-pub access_takes : (bytes : List ℕ) → IsBytes bytes → 21 ≤ length bytes → access_bytes (access_of bytes) ++ drop 21 bytes ≡ bytes
+pub access_takes : (bytes : List ℕ) → AreBytes bytes → 21 ≤ length bytes → access_bytes (access_of bytes) ++ drop 21 bytes ≡ bytes
 access_takes bytes fits room =
     spell_access (access_of bytes) (drop 21 bytes) (drop 17 bytes) (drop 9 bytes) (drop 5 bytes) (drop 1 bytes)
     (field32 bytes 17 21 fits refl room) (field64 bytes 9 17 fits refl (omega arith)) (field32 bytes 5 9 fits refl (omega arith)) (field32 bytes 1 5 fits refl (omega arith))
     ∙ byte_at_front bytes 0 1 refl (omega arith)
 
-pub access_fits : (bytes : List ℕ) → IsBytes bytes → AccessFits (access_of bytes)
+pub access_fits : (bytes : List ℕ) → AreBytes bytes → AccessFits (access_of bytes)
 access_fits bytes fits = record {
-  slot = omega (arith, fits 0);
+  slot = omega (arith, byte-fits bytes 0 fits);
   cell = below32 bytes 1 fits;
   old = below32 bytes 5 fits;
   prev = below64 bytes 9 fits;
@@ -58,7 +60,7 @@ length-access_bytes a = refl
 abbrev pub access_at : List ℕ → ℕ → Access
 access_at bytes j = access_of (drop (9 + 21 * j) bytes)
 
-accesses_take : (bytes : List ℕ) (i n : ℕ) → IsBytes bytes → 9 + 21 * (i + n) ≤ length bytes
+accesses_take : (bytes : List ℕ) (i n : ℕ) → AreBytes bytes → 9 + 21 * (i + n) ≤ length bytes
     → flat_map access_bytes (map (access_at bytes) (range_with_len i n)) ++ drop (9 + 21 * (i + n)) bytes ≡ drop (9 + 21 * i) bytes
 accesses_take bytes i zero fits room = ap (λ k. drop (9 + 21 * k) bytes) (omega arith)
 accesses_take bytes i (suc n) fits room =
@@ -70,11 +72,11 @@ accesses_take bytes i (suc n) fits room =
     append_assoc (access_bytes (access_at bytes i)) behind (drop (9 + 21 * (i + suc n)) bytes)
     ∙ ap (λ k. access_bytes (access_at bytes i) ++ (behind ++ drop (9 + 21 * k) bytes)) one_less
     ∙ ap (λ (xs : List ℕ). access_bytes (access_at bytes i) ++ xs) (others ∙ next)
-    ∙ access_takes here (IsBytes-drop (9 + 21 * i) bytes fits) (omega (arith, length-drop (9 + 21 * i) bytes))
+    ∙ access_takes here (drop-bytes (9 + 21 * i) bytes fits) (omega (arith, length-drop (9 + 21 * i) bytes))
 
-accesses_fit : (bytes : List ℕ) (i n : ℕ) → IsBytes bytes → AllByRecursion AccessFits (map (access_at bytes) (range_with_len i n))
+accesses_fit : (bytes : List ℕ) (i n : ℕ) → AreBytes bytes → AllByRecursion AccessFits (map (access_at bytes) (range_with_len i n))
 accesses_fit bytes i zero fits = tt
-accesses_fit bytes i (suc n) fits = (access_fits (drop (9 + 21 * i) bytes) (IsBytes-drop (9 + 21 * i) bytes fits), accesses_fit bytes (i + 1) n fits)
+accesses_fit bytes i (suc n) fits = (access_fits (drop (9 + 21 * i) bytes) (drop-bytes (9 + 21 * i) bytes fits), accesses_fit bytes (i + 1) n fits)
 
 accesses_again : (list : List Access) (whole before rest : List ℕ) (i : ℕ) → AllByRecursion AccessFits list → length before ≡ 9 + 21 * i
     → whole ≡ before ++ (flat_map access_bytes list ++ rest) → map (access_at whole) (range_with_len i (length list)) ≡ list
@@ -103,7 +105,7 @@ spell_row r end d9 d8 d4 d0 accesses count next pc =
     ∙ ap (λ (xs : List ℕ). to_le_bytes w32 r.pc ++ xs) next
     ∙ pc
 
-pub row_takes : (bytes : List ℕ) → IsBytes bytes → 9 + 21 * get_or bytes 8 0 ≤ length bytes → row_bytes (row_of bytes) ++ drop (9 + 21 * get_or bytes 8 0) bytes ≡ bytes
+pub row_takes : (bytes : List ℕ) → AreBytes bytes → 9 + 21 * get_or bytes 8 0 ≤ length bytes → row_bytes (row_of bytes) ++ drop (9 + 21 * get_or bytes 8 0) bytes ≡ bytes
 row_takes bytes fits room =
     let n = get_or bytes 8 0 in
     let count : length (row_of bytes).accesses ≡ n = length-map-range_with_len (access_at bytes) 0 n in
@@ -113,7 +115,7 @@ row_takes bytes fits room =
     (ap (λ k. k ∷ drop 9 bytes) count ∙ byte_at_front bytes 8 9 refl (omega arith))
     (field32 bytes 4 8 fits refl (omega arith)) (field32 bytes 0 4 fits refl (omega arith))
 
-pub row_fits : (bytes : List ℕ) → IsBytes bytes → IsInRange 1 8 (get_or bytes 8 0) → RowFits (row_of bytes)
+pub row_fits : (bytes : List ℕ) → AreBytes bytes → IsInRange 1 8 (get_or bytes 8 0) → RowFits (row_of bytes)
 row_fits bytes fits count = record {
   pc = below32 bytes 0 fits;
   next = below32 bytes 4 fits;

@@ -8,16 +8,13 @@ use Rattle.rv_spec.specs.Tuples.{Event, tuple_read}
 use Rattle.rv_rules.specs.Chain.{at, WrittenOnce}
 use Rattle.rv_spec.specs.Multiset.{same_tuple, count, Same}
 use Rattle.rv_rules.specs.Membership.{In}
+use Rattle.rv_rules.proofs.Conjunctions.{both_true}
 use Rattle.rv_rules.proofs.MultisetLaws.{sum_by-same, same_tuple-refl, same_tuple-true, count-cons}
 
 pub in-map : {A B : Type 0} (f : A → B) (x : A) (xs : List A) → In x xs → In (f x) (map f xs)
 in-map f x [] h = h
 in-map f x (y ∷ ys) (inl e) = inl (ap f e)
 in-map f x (y ∷ ys) (inr h) = inr (in-map f x ys h)
-
-both_true : (a b : Bool) → a ≡ true → b ≡ true → (a && b) ≡ true
-both_true true b p q = q
-both_true false b p q = p
 
 pub at-is : (c t : ℕ) (w : Tuple) → w.cell ≡ c → w.time ≡ t → at c t w ≡ true
 at-is c t w p q = both_true _ _ (eq-eqb w.cell c p) (eq-eqb w.time t q)

@@ -8,7 +8,7 @@ use Rattle.rv_spec.specs.Trace.{last_use, left_at, last_entry, rising, table_of}
 use Rattle.rv_spec.specs.Tuples.{Event, tuple_read, tuple_written, tuple_last, tuple_first, all_read, all_written}
 use Rattle.rv_spec.specs.Multiset.{Same, count}
 use Rattle.rv_rules.specs.Chain.{AllDiffer, AreOrdered, IsChain, at, value_before}
-use Rattle.rv_rules.proofs.MultisetLaws.{left_true, right_true}
+use Rattle.rv_rules.proofs.Conjunctions.{both_true, left_true, right_true}
 use Rattle.rv_rules.specs.Membership.{In}
 use Rattle.rv_rules.proofs.ChainCore.{in-map, in-count, count-in, at-is, Agree, read_in, last_read}
 use Rattle.rv_rules.proofs.Members.{in-append, in-left, in-right, in-map-back, all-in, all-of, same-rising, rising-in, in-rising, rising-rises}
@@ -19,10 +19,6 @@ use Rattle.rv_rules.proofs.OwnTimes.{written-once}
 -- a tuple is of the cell, and before the time
 abbrev is_before : ℕ → ℕ → Tuple → Bool
 is_before c t w = w.cell == c && nat_lt w.time t
-
-both_true : (a b : Bool) → a ≡ true → b ≡ true → (a && b) ≡ true
-both_true true b p q = q
-both_true false b p q = p
 
 abbrev top : ℕ → ℕ → ℕ → List Tuple → ℕ
 top a c t ts = fold max a (map (λ w. w.time) (filter (is_before c t) ts))

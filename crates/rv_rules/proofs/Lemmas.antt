@@ -4,6 +4,8 @@ pub use Rattle.rv_rules.proofs.ChainLaws.{chain, last_use-is, left_at-is}
 pub use Rattle.rv_rules.proofs.DigestLaws.{digest-append}
 pub use Rattle.rv_rules.proofs.Members.{all-in, all-of, in-append, in-left, in-map-back, in-right, in-rising, rising-in, rising-rises}
 pub use Rattle.rv_rules.proofs.MemoryLaws.{byte-one, byte-outside, extract-loaded, found-insert, word-aligned, word-stored}
-pub use Rattle.rv_rules.proofs.MultisetLaws.{count-cons, digest-same, left_true, right_true, same_tuple-true, sum_by-without, without}
+pub use Rattle.rv_rules.proofs.MultisetLaws.{count-cons, digest-same, same_tuple-true, sum_by-without, without}
 pub use Rattle.rv_rules.proofs.OldValues.{seen-in}
 pub use Rattle.rv_rules.proofs.OwnTimes.{rising-differ, written-once}
+pub use Rattle.rv_rules.proofs.Conjunctions.{both_true, left_true, right_true, left_false, right_false, and_true, or_false}
+pub use Rattle.rv_rules.proofs.ByteLists.{bytes-are, byte-fits, take-bytes, drop-bytes, append-bytes}

@@ -1,5 +1,7 @@
 pub mod Lemmas
 pub mod Computes
+mod Conjunctions
+mod ByteLists
 mod DigestLaws
 mod MultisetLaws
 mod ChainCore

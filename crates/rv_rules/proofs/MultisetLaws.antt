@@ -7,22 +7,11 @@ use Rattle.std.proofs.lemmas.Bool.{eqb-true, eq-eqb}
 use Rattle.rv_base.specs.declared.record.Tuple.{Tuple}
 use Rattle.rv_spec.specs.Digest.{Lanes, lane_numbers, digest_lane, digest}
 use Rattle.rv_spec.specs.Multiset.{same_tuple, count, Same}
-
-pub left_true : (a b : Bool) → (a && b) ≡ true → a ≡ true
-left_true true b e = refl
-left_true false b e = e
-
-pub right_true : (a b : Bool) → (a && b) ≡ true → b ≡ true
-right_true true b e = e
-right_true false b e = absurd (true≢false (sym e))
-
-and_true : (a b : Bool) → a ≡ true → b ≡ true → (a && b) ≡ true
-and_true true b p q = q
-and_true false b p q = p
+use Rattle.rv_rules.proofs.Conjunctions.{both_true, left_true, right_true}
 
 -- the test of tuples decides that they are equal
 pub same_tuple-refl : (t : Tuple) → same_tuple t t ≡ true
-same_tuple-refl t = and_true _ _ (and_true _ _ (eq-eqb t.cell t.cell refl) (eq-eqb t.value t.value refl)) (eq-eqb t.time t.time refl)
+same_tuple-refl t = both_true _ _ (both_true _ _ (eq-eqb t.cell t.cell refl) (eq-eqb t.value t.value refl)) (eq-eqb t.time t.time refl)
 
 pub same_tuple-true : (t u : Tuple) → same_tuple t u ≡ true → t ≡ u
 same_tuple-true t u e =

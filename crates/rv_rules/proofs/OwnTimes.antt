@@ -8,7 +8,7 @@ use Rattle.rv_base.specs.declared.record.TableEntry.{TableEntry}
 use Rattle.rv_spec.specs.Tuples.{Event, tuple_written, tuple_first, all_written}
 use Rattle.rv_spec.specs.Grammar.{IsRising}
 use Rattle.rv_rules.specs.Chain.{AllDiffer, AreOrdered, at, WrittenOnce}
-use Rattle.rv_rules.proofs.MultisetLaws.{left_true, right_true}
+use Rattle.rv_rules.proofs.Conjunctions.{left_true, right_true}
 
 count-cons : {A : Type 0} (p : A → Bool) (x : A) (xs : List A) → count_by p (x ∷ xs) ≡ cond (p x) 1 0 + count_by p xs
 count-cons p x xs = sum_by-cons (λ y. cond (p y) 1 0) x xs

@@ -88,6 +88,15 @@ pub record Reading (A : Type 0) : Type 0 where
 abbrev pub same_place : ShardHead → Place → Bool
 same_place h p = h.pc == p.pc && h.input == p.input && h.output == p.output
 
+-- the checks of a header's numbers
+abbrev pub number_checks : Header → List Check
+number_checks h =
+    (SHARD_SIZE, is_in_range 1 SHARD_SIZE_LIMIT h.size)
+    ∷ (COUNTS, nat_le 1 h.steps && h.shards == div_ceil h.steps h.size && nat_le h.shards SHARDS_LIMIT)
+    ∷ (END_KIND, nat_le h.end.kind MISALIGNED_STORE && (h.end.kind == EXIT || h.end.code == 0))
+    ∷ (OUTPUT_LENGTH, nat_le h.length OUTPUT_LIMIT)
+    ∷ []
+
 -- the form of a row, read from these bytes
 abbrev pub row_form : List ℕ → List Check
 row_form bytes =
@@ -138,12 +147,7 @@ module _ (complete : Bool) (lanes : Lanes) (elf input : List ℕ) where
       ∷ (MAGIC, bytes_eq (take 8 file) (magic h.version))
       ∷ (PROGRAM, when_complete (bytes_eq h.elf (sha512 elf)))
       ∷ (INPUT, when_complete (bytes_eq h.input (sha512 input)))
-      ∷ (SHARD_SIZE, is_in_range 1 SHARD_SIZE_LIMIT h.size)
-      ∷ (COUNTS, nat_le 1 h.steps && h.shards == div_ceil h.steps h.size && nat_le h.shards SHARDS_LIMIT)
-      ∷ (END_KIND, nat_le h.end.kind MISALIGNED_STORE && (h.end.kind == EXIT || h.end.code == 0))
-      ∷ (OUTPUT_LENGTH, nat_le h.length OUTPUT_LIMIT)
-      ∷ (SHORT, nat_le (at.HEADER_BYTES + h.length) (length file))
-      ∷ []
+      ∷ (number_checks h ++ (SHORT, nat_le (at.HEADER_BYTES + h.length) (length file)) ∷ [])
 
   abbrev pub next_place : Header → Row → Place → Place
   next_place h r p = if complete then place_after h.version r p input else p

@@ -8,7 +8,7 @@ use Rattle.rv_base.specs.declared.instr.Cond.TheVariants.{Eq, Ne, Lt, Ge, Ltu, G
 use Rattle.rv_base.specs.declared.instr.AtomicOp.{AtomicOp}
 use Rattle.rv_base.specs.declared.instr.AtomicOp.TheVariants as amo
 
--- a register as a signed number, and back
+-- a register as a signed number, and back, in two's complement
 abbrev pub signed : ℕ → ℤ
 signed a = cast_signed w32 a
 

@@ -16,7 +16,7 @@ use Rattle.rv_base.specs.declared.instr.AtomicOp.TheVariants as amo
 use Rattle.rv_base.specs.declared.instr.Atomic.{Atomic}
 use Rattle.rv_spec.specs.Words.{bits_of, sign_extend}
 
--- the fields of a word
+-- the fields of a word (RV32I "Base Instruction Formats")
 abbrev pub opcode : ℕ → ℕ
 opcode w = w % 2 ^ 7
 
@@ -35,7 +35,7 @@ rs2 w = bits_of 20 5 w
 abbrev pub funct7 : ℕ → ℕ
 funct7 w = bits_of 25 7 w
 
--- the immediates of the formats I, S, B, U and J
+-- the immediates of the formats I, S, B, U and J (RV32I "Immediate Encoding Variants")
 abbrev pub imm_i : ℕ → ℤ
 imm_i w = sign_extend 12 (bits_of 20 12 w)
 
@@ -88,7 +88,7 @@ shift_instr o w = instr.OpImm o (rd w) (rs1 w) (pos (rs2 w))
 abbrev pub reg_instr : Op → ℕ → Instr
 reg_instr o w = instr.Op o (rd w) (rs1 w) (rs2 w)
 
--- RV32I and M. No word fits two rows.
+-- RV32I and M, as the instruction set listings have them. No word fits two rows, and that every other word is illegal is this project's own.
 unfoldable pub rv32im_table : List (Encoding Instr)
 rv32im_table =
     by_opcode 0x37 (λ w. instr.Lui (rd w) (imm_u w))
@@ -151,7 +151,7 @@ amo_encoding f o = record { matches = λ w. opcode w == 0x2F && funct3 w == 2 &&
 abbrev pub lr_encoding : Encoding Atomic
 lr_encoding = record { matches = λ w. opcode w == 0x2F && funct3 w == 2 && bits_of 27 5 w == 0x02 && rs2 w == 0; fields = atomic_instr amo.Lr }
 
--- extension A
+-- extension A ("Load-Reserved/Store-Conditional Instructions" and "Atomic Memory Operations")
 unfoldable pub rv32a_table : List (Encoding Atomic)
 rv32a_table =
     lr_encoding

@@ -4,7 +4,7 @@ use Rattle.std.specs.List.{list_any, position_from, range_with_len, starts_with,
 use Rattle.std.specs.Int.{w16, w32, to_le_bytes}
 use Rattle.rv_spec.specs.Words.{u16_at, u32_at, Block, block_byte}
 
--- what a program header says of a segment: p_type, p_offset, p_vaddr, p_filesz, p_memsz
+-- what a program header says of a segment (gABI, chapter 5, Elf32_Phdr): p_type, p_offset, p_vaddr, p_filesz, p_memsz
 pub record Segment : Type 0 where
   pub kind : ℕ
   pub offset : ℕ
@@ -21,21 +21,21 @@ header_at file at = record {
   memory_size = u32_at file (at + 20);
 }
 
--- e_phoff and e_phnum
+-- e_phoff and e_phnum (gABI, chapter 4, Elf32_Ehdr)
 abbrev pub headers_at : List ℕ → ℕ
 headers_at file = u32_at file 28
 
 abbrev pub header_count : List ℕ → ℕ
 header_count file = u16_at file 44
 
--- the program headers in order, and those of type PT_LOAD
+-- the program headers in order, and those of type PT_LOAD (1)
 unfoldable pub headers : List ℕ → List Segment
 headers file = map (λ i. header_at file (headers_at file + 32 * i)) (range_with_len 0 (header_count file))
 
 unfoldable pub load_segments : List ℕ → List Segment
 load_segments file = filter (λ s. s.kind == 1) (headers file)
 
--- some address lies in both memory ranges
+-- some address lies in both memory ranges; that such segments are a fault is this project's own
 abbrev pub overlaps : Segment → Segment → Bool
 overlaps s t = nat_lt (max s.address t.address) (min (s.address + s.memory_size) (t.address + t.memory_size))
 
@@ -43,7 +43,7 @@ abbrev pub some_overlap : List Segment → Bool
 some_overlap [] = false
 some_overlap (s ∷ ss) = list_any (overlaps s) ss || some_overlap ss
 
--- the faults in order of their numbers, from 1 on, as tests of a file
+-- The faults in order of their numbers, from 1 on, as tests of a file. The fields are those of the gABI; the list and its order are this project's own.
 abbrev pub fault_tests : List ℕ → List Bool
 fault_tests file =
     nat_lt (length file) 52
@@ -74,7 +74,7 @@ pub record Image : Type 0 where
   pub entry : ℕ
   pub blocks : List Block
 
--- the bytes that a segment takes from the file
+-- the bytes that a segment takes from the file: the first p_filesz of p_memsz, the others are 0
 abbrev pub block_of : List ℕ → Segment → Block
 block_of file s = record { address = s.address; bytes = take s.file_size (drop s.offset file) }
 

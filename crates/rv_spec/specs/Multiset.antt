@@ -1,4 +1,4 @@
--- Lists of tuples as multisets.
+-- Lists of tuples as multisets (after Blum et al. 1991 and Clarke et al. 2003).
 use Rattle.std.specs.Prelude.{◌≡◌, ℕ, Bool, ◌&&◌, List, count_by, ◌==◌}
 use Rattle.rv_base.specs.declared.record.Tuple.{Tuple}
 

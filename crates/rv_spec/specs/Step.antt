@@ -28,7 +28,7 @@ pub record State : Type 0 where
   pub position : ℕ
   pub output : List ℕ
 
--- the state before the first step: x2 points to the top of the stack, and all other registers are 0
+-- the state before the first step: x2 points to the top of the stack, and all other registers are 0 (this project's own)
 abbrev pub start : Image → State
 start i = record {
   version = i.version;
@@ -56,14 +56,14 @@ with_register r v s = record s { registers = if r == 0 then s.registers else sli
 abbrev pub with_memory : Memory → State → State
 with_memory m s = record s { memory = m }
 
--- the run ends, by an exit with a code or by another kind of end
+-- the run ends, by an exit with a code or by another kind of end (this project's own)
 abbrev pub exits : ℕ → Transition
 exits code = Ends (record { kind = EXIT; code = code })
 
 abbrev pub stops : ℕ → Transition
 stops kind = Ends (record { kind = kind; code = 0 })
 
--- on to the next instruction, or to a target, which has to be aligned
+-- on to the next instruction, or to a target, which has to be a multiple of 4 (RV32I "Control Transfer Instructions"; that a misaligned one ends the run is this project's own)
 abbrev pub advance : State → Transition
 advance s = Next (record s { pc = (s.pc + 4) % 2 ^ 32 })
 
@@ -153,7 +153,7 @@ execute input (Fence rd rs1 imm) s = advance s
 execute input Ecall s = environment_call input s
 execute input Ebreak s = stops BREAKPOINT
 
--- LR.W reserves the word, SC.W stores where its word is still reserved, an AMO combines the word with a register
+-- LR.W keeps its address and 1 as the reservation; SC.W stores where the reservation is of its own address, and ends it either way; an AMO combines the word with a register and leaves the reservation. This profile of one hart is the project's own.
 abbrev pub load_reserved : ℕ → ℕ → State → Transition
 load_reserved rd a s = advance (record (with_register rd (load_value loads.W s.memory a) s) { reservation = a + 1 })
 
@@ -188,6 +188,6 @@ abbrev pub execute_if : List ℕ → Option AnyInstr → State → Transition
 execute_if input None s = stops ILLEGAL_WORD
 execute_if input (Some i) s = execute_any input i s
 
--- One step: the word at pc is fetched, decoded and executed. A word that is no instruction ends the run.
+-- One step: the word at pc is fetched, decoded and executed. A fetch sees every earlier store, and a word that is no instruction ends the run (this project's own).
 unfoldable pub step : List ℕ → State → Transition
 step input s = execute_if input (decode_any s.version (fetch_word s)) s

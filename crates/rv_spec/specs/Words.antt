@@ -7,15 +7,15 @@ use Rattle.std.specs.BTreeMap.{insert_entry, is_at}
 use Rattle.std.specs.Map.{lookup}
 pub use Rattle.rv_base.specs.LittleEndian.{u16_at, u32_at, u64_at}
 
--- the k bits of n from bit low on
+-- the k bits of n from bit low on, as the ISA cuts fields out of words
 abbrev pub bits_of : ℕ → ℕ → ℕ → ℕ
 bits_of low k n = n / 2 ^ low % 2 ^ k
 
--- n as a signed number of k bits
+-- n as a signed number of k bits, in two's complement
 abbrev pub sign_extend : ℕ → ℕ → ℤ
 sign_extend k n = if nat_lt n (2 ^ (k - 1)) then pos n else negsuc (2 ^ k - 1 - n)
 
--- an address or a register with a signed offset, modulo 2 ^ 32
+-- an address or a register with a signed offset, modulo 2 ^ 32 (RV32I "Load and Store Instructions": effective addresses wrap)
 abbrev pub plus : ℕ → ℤ → ℕ
 plus a z = (a + cast_unsigned w32 z) % 2 ^ 32
 
@@ -24,7 +24,7 @@ pub record Block : Type 0 where
   pub address : ℕ
   pub bytes : List ℕ
 
--- Memory: the bytes of a program, and over them those written since, by rising address.
+-- Memory: the bytes of a program, and over them those written since, by rising address. This form is the project's own.
 pub record Memory : Type 0 where
   pub blocks : List Block
   pub written : List (ℕ × ℕ)
@@ -34,7 +34,7 @@ unfoldable pub block_byte : List Block → ℕ → ℕ
 block_byte [] a = 0
 block_byte (b ∷ bs) a = if nat_le b.address a && nat_lt a (b.address + length b.bytes) then slice_index b.bytes (a - b.address) else block_byte bs a
 
--- the byte at an address: the last one written there, or the program's, or 0
+-- the byte at an address: the last one written there, or the program's, or else 0 (this project's own)
 unfoldable pub byte : Memory → ℕ → ℕ
 byte m a = unwrap_or (lookup (is_at (nat_cmp a)) m.written) (block_byte m.blocks a)
 

@@ -1,5 +1,6 @@
 use Rattle.std.proofs.Common.{arith}
-use Rattle.rv_elf.proofs.ProgramLaws.{image-is, bytes-are}
+use Rattle.rv_rules.proofs.Lemmas.{bytes-are}
+use Rattle.rv_elf.proofs.ProgramLaws.{image-is}
 use Rattle.rv_elf.proofs.image.loads_program.Goals as goal
 
 pub returns : goal.returns

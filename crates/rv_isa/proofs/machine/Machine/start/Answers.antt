@@ -3,7 +3,7 @@ use Rattle.rv_spec.specs.Elf.{Image}
 use Rattle.rv_spec.specs.Step.{start}
 use Rattle.rv_spec.specs.Cells.{initial_value}
 use Rattle.rv_rules.specs.Agreement.{IsProgram}
-use Rattle.rv_isa.proofs.ByteLists.{bytes-are}
+use Rattle.rv_rules.proofs.Lemmas.{bytes-are}
 use Rattle.rv_isa.proofs.MachineLaws.{first-shows}
 use Rattle.rv_isa.proofs.machine.Machine.start.Goals as goal
 
