@@ -6,6 +6,7 @@
 ghost use Rattle.std.specs.Prelude.{◌≡◌, ◌≤◌};
 ghost use Rattle.rv_claim.specs.Passes.{IsOf};
 
+use rv_base::limits::SHARDS_LIMIT;
 use rv_base::{Bytes, NoMemory, Place, Tuple};
 use rv_book::{Piece, Task};
 use rv_claim::{Board, Pass};
@@ -19,7 +20,7 @@ use std::thread::Threads;
 use std::time::Instant;
 use std::{env, io};
 
-const MOST_PIECES: u32 = 65536;
+const MOST_PIECES: u32 = SHARDS_LIMIT;
 
 // Pieces that are empty, each after so many tuples were hashed.
 #[derive(Drop)]
@@ -28,10 +29,11 @@ struct Hashing {
 }
 
 impl Task for Hashing {
+    ghost use Rattle.rv_base.specs.declared.limits.TheConstants.{SHARDS_LIMIT};
     ghost use Rattle.std.specs.Prelude.{[], None, replicate, refl};
     ghost use Rattle.rv_book.specs.declared.task.Piece.{Piece};
 
-    ghost bound = { λ t. 65536 };
+    ghost bound = { λ t. SHARDS_LIMIT };
 
     ghost piece = { λ t i. record {
       index = i;
@@ -117,7 +119,7 @@ fn time_workers<R: Threads + Wait + Sync + Clock + Print>(
     task: &Hashing,
     n: u32,
 ) -> io::Result<()>
-    requires { (1 ≤ n) × (n ≤ 65536) }
+    requires { (1 ≤ n) × (n ≤ SHARDS_LIMIT) }
 {
     let start = Instant::now(rt)?;
     let Ok(book) = run_one(alloc, task, n) else {

@@ -14,7 +14,7 @@ use Rattle.rv_rules.specs.Sums.{add_lanes}
 use Rattle.rv_book.specs.declared.entry.Entry.{Entry}
 use Rattle.rv_book.specs.declared.task.Piece.{Piece}
 use Rattle.rv_book.specs.Journal.{entry, is_entered, named_once, total_of, lanes_at, lanes_of, zeros, read_lanes, write_lanes}
-use Rattle.rv_book.specs.Book.{is_full, IsKept}
+use Rattle.rv_book.specs.Book.{is_full, RepresentsBook}
 
 pub some_inj : {X : Type 0} (d x y : X) → Some x ≡ Some y → x ≡ y
 some_inj {X} d x y e = ap (or_else d) e
@@ -113,7 +113,7 @@ total_push f ps es i p x at =
     sym (fold-append (λ sum (e : Entry). add_lanes sum (lanes_at f ps e.index)) zeros es (entry p i ∷ []) ∙ ap (λ (o : Option Piece). add_lanes (total_of f ps es) (lanes_of f o)) at)
 
 module _ (ps : List Piece) where
-  pub begins : IsKept ps (replicate (length ps) None) [] zeros zeros
+  pub begins : RepresentsBook ps (replicate (length ps) None) [] zeros zeros
   begins = record {
     long = length-replicate (length ps) None;
     slots = λ i lt. get_replicate (length ps) i None lt;
@@ -124,7 +124,7 @@ module _ (ps : List Piece) where
     writes = refl;
   }
 
-  module _ (os : List (Option Piece)) (es : List Entry) (rs ws : List ℕ) (r : IsKept ps os es rs ws) where
+  module _ (os : List (Option Piece)) (es : List Entry) (rs ws : List ℕ) (r : RepresentsBook ps os es rs ws) where
     pub few : length es ≤ length ps
     few = omega (arith, r.count, r.long, fits_in os)
 
@@ -150,7 +150,7 @@ module _ (ps : List Piece) where
       pub entered : (y : Piece) → slice_get os i ≡ Some (Some y) → is_entered i es ≡ true
       entered y n = taken (is_entered i es) refl y n
 
-      pub enters : (p : ℕ) → slice_get os i ≡ Some None → IsKept ps (set os i (Some x)) (es ++ entry p i ∷ []) (add_lanes rs (read_lanes x)) (add_lanes ws (write_lanes x))
+      pub enters : (p : ℕ) → slice_get os i ≡ Some None → RepresentsBook ps (set os i (Some x)) (es ++ entry p i ∷ []) (add_lanes rs (read_lanes x)) (add_lanes ws (write_lanes x))
       enters p n =
           let new = not_entered n in
           record {

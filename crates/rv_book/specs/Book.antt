@@ -9,7 +9,7 @@ is_full None = false
 is_full (Some p) = true
 
 -- The slots of the journal's indices have the task's pieces, all others are empty, and the sums are those of the journal.
-pub record IsKept (pieces : List Piece) (slots_of : List (Option Piece)) (journal : List Entry) (read_sum write_sum : List ℕ) : Type 0 where
+pub record RepresentsBook (pieces : List Piece) (slots_of : List (Option Piece)) (journal : List Entry) (read_sum write_sum : List ℕ) : Type 0 where
   pub long : length slots_of ≡ length pieces
   pub slots : (i : ℕ) → i < length pieces → slice_get slots_of i ≡ Some (cond (is_entered i journal) (slice_get pieces i) None)
   pub within : (i : ℕ) → length pieces ≤ i → is_entered i journal ≡ false

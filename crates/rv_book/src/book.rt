@@ -6,6 +6,7 @@ ghost use Rattle.rv_book.specs.Journal.{BookState, IsDeposit, is_entered, named_
 use crate::entry::{Deposited, Entry};
 use crate::task::{Piece, Task};
 use rv_base::NoMemory;
+use rv_base::limits::SHARDS_LIMIT;
 use rv_digest::SetDigest;
 use std::alloc::Global;
 use std::marker::Model;
@@ -25,21 +26,22 @@ pub struct Book<'t, T: Task> {
 impl<'t, T: Task> Model for Book<'t, T> {
     ghost use Rattle.std.specs.Prelude.{◌≤◌, vec_capacity};
     ghost use Rattle.rv_book.specs.Journal.{BookState, pieces_of};
-    ghost use Rattle.rv_book.specs.Book.{IsKept};
+    ghost use Rattle.rv_base.specs.declared.limits.TheConstants.{SHARDS_LIMIT};
+    ghost use Rattle.rv_book.specs.Book.{RepresentsBook};
 
     ghost Value = { BookState };
 
     ghost view = { λ b. record { pieces = pieces_of (T.piece b.task.now) b.shards; journal = b.journal.items } };
 
-    ghost invariant = { λ b. IsKept (pieces_of (T.piece b.task.now) b.shards) b.slots.items b.journal.items b.reads.lanes b.writes.lanes
-        × (b.shards ≤ vec_capacity b.journal) × (b.shards ≤ 65536) };
+    ghost invariant = { λ b. RepresentsBook (pieces_of (T.piece b.task.now) b.shards) b.slots.items b.journal.items b.reads.lanes b.writes.lanes
+        × (b.shards ≤ vec_capacity b.journal) × (b.shards ≤ SHARDS_LIMIT) };
 }
 
 impl<'t, T: Task> Book<'t, T> {
     /// An empty book for the first `n` pieces of a task. It takes all the memory that the book ever
     /// needs, but for that of the pieces.
     pub fn open(alloc: Global, task: &'t T, n: u32) -> Result<Book<'t, T>, NoMemory>
-        requires shards { (1 ≤ n) × (n ≤ 65536) }
+        requires shards { (1 ≤ n) × (n ≤ SHARDS_LIMIT) }
         requires bound { n ≤ T.bound task.now }
         ensures { IfOk result (λ b. b ≡ record { pieces = pieces_of (T.piece task.now) n; journal = [] }) }
     {

@@ -18,7 +18,7 @@ use Rattle.rv_book.specs.declared.entry.Deposited.{Deposited}
 use Rattle.rv_book.specs.declared.task.Piece.{Piece}
 use Rattle.rv_book.specs.Journal.{BookState, IsDeposit, entry, indices, is_entered, pieces_of, with_entry}
 use Rattle.rv_claim.specs.declared.pass.Pass.{Pass}
-use Rattle.rv_claim.specs.declared.view.Kept.{Kept}
+use Rattle.rv_claim.specs.declared.view.Deposit.{Deposit}
 use Rattle.rv_claim.specs.declared.view.Lists.{Lists}
 use Rattle.rv_claim.specs.declared.view.View.{View}
 use Rattle.rv_claim.specs.Views.{home_view, is_past, with_gathered, kept}
@@ -59,7 +59,7 @@ indices-closing ds (suc n) each =
     ∙ ap (λ o. range_with_len 0 n ++ indices (entry_by o n)) (each n (omega arith)).1 ∙ sym (range-snoc 0 n n (omega arith)) ∙ ap (range_with_len 0) (sym e)
 
 -- the last state, of a table whose key and seat are known by other names
-pub final_as : (piece : ℕ → Piece) (n m w x id : ℕ) (v u : View) (words : List ℕ) (xs : List (Option Kept)) → n ≡ m → w ≡ x → id ≡ 0 → v ≡ u
+pub final_as : (piece : ℕ → Piece) (n m w x id : ℕ) (v u : View) (words : List ℕ) (xs : List (Option Deposit)) → n ≡ m → w ≡ x → id ≡ 0 → v ≡ u
     → Final (Seen (Ruled piece n w) id v) words xs → Final (Seen (Ruled piece m x) 0 u) words xs
 final_as piece n m w x id v u words xs en ew ei ev t =
     subst (λ (z : ℕ × ℕ × ℕ × View). Final (Seen (Ruled piece z.0 z.1) z.2 z.3) words xs) (λ i. (en i, ew i, ei i, ev i)) t
@@ -107,7 +107,7 @@ gathered_all w ps rest p h j m eh ej em er ep lt =
     let first : j.0.gathered ≡ own_of p ∷ [] = ap (λ (s : Seat). s.0.gathered) ej ∙ ap (λ (s : Seat). s.0.gathered ++ own_of p ∷ []) eh in
     ap (λ (s : Seat). s.0) em ∙ ap (home_view w) (ap (λ ls. ls ++ map own_of rest) first ∙ ap (λ r. own_of p ∷ map own_of r) er ∙ first_removed ps p lt ep)
 
-module _ (piece : ℕ → Piece) (n w : ℕ) (ps : List Pass) (words : List ℕ) (xs : List (Option Kept)) (long : length ps ≡ w)
+module _ (piece : ℕ → Piece) (n w : ℕ) (ps : List Pass) (words : List ℕ) (xs : List (Option Deposit)) (long : length ps ≡ w)
     (named : (k : ℕ) (d : Pass) → k < length ps → number_of (slice_index_or ps k d) ≡ k) (f : Final (Seen (Ruled piece n w) 0 (home_view w (map own_of ps))) words xs) where
   pub slot_at : (i : ℕ) → i < n → get_elem? xs i ≡ some (slot_by piece (depositor i (map deposited_of ps) 0) i)
   slot_at i lt = closed_slot piece n w (map own_of ps) words xs (length_own ps ∙ long) (places ps named) f i lt ∙ ap (λ ds. some (slot_by piece (depositor i ds 0) i)) (same_lists ps)
@@ -121,11 +121,11 @@ module _ (piece : ℕ → Piece) (n w : ℕ) (ps : List Pass) (words : List ℕ)
       (t.0, ap (λ ds. depositor i ds 0) (sym (same_lists ps)) ∙ t.1)
 
 -- what was taken from a slot
-pub taken_piece : (piece : ℕ → Piece) (o : Option ℕ) (i : ℕ) (k : Kept) (x : Option Kept) → x ≡ Some k → x ≡ slot_by piece o i → (p : ℕ) × (o ≡ Some p) × (k ≡ kept p (piece i))
+pub taken_piece : (piece : ℕ → Piece) (o : Option ℕ) (i : ℕ) (k : Deposit) (x : Option Deposit) → x ≡ Some k → x ≡ slot_by piece o i → (p : ℕ) × (o ≡ Some p) × (k ≡ kept p (piece i))
 taken_piece piece None i k x e f = absurd (some_not_none k (sym e ∙ f))
 taken_piece piece (Some p) i k x e f = (p, refl, some_inj k k (kept p (piece i)) (sym e ∙ f))
 
-pub taken_none : (piece : ℕ → Piece) (o : Option ℕ) (i : ℕ) (x : Option Kept) → x ≡ None → x ≡ slot_by piece o i → o ≡ None
+pub taken_none : (piece : ℕ → Piece) (o : Option ℕ) (i : ℕ) (x : Option Deposit) → x ≡ None → x ≡ slot_by piece o i → o ≡ None
 taken_none piece None i x e f = refl
 taken_none piece (Some p) i x e f = absurd (some_not_none (kept p (piece i)) (sym f ∙ e))
 

@@ -9,7 +9,7 @@ use lib.ListN.{get_elem?}
 use Rattle.atomic_table.specs.Table.{State, Final, Seen}
 use Rattle.rv_book.specs.Board.{is_in}
 use Rattle.rv_book.specs.declared.task.Piece.{Piece}
-use Rattle.rv_claim.specs.declared.view.Kept.{Kept}
+use Rattle.rv_claim.specs.declared.view.Deposit.{Deposit}
 use Rattle.rv_claim.specs.declared.view.Lists.{Lists}
 use Rattle.rv_claim.specs.declared.view.View.{View}
 use Rattle.rv_claim.specs.Views.{kept, home_view, spent_view, is_past, drew, put, put_by, waits, past, each_one, in_view, total}
@@ -84,9 +84,9 @@ module _ (i : ℕ) where
           ap Some (omega (arith, number, place))
       by false e rest = rest (out_times i l.deposited e)
 
-module _ (piece : ℕ → Piece) (n w : ℕ) (ls : List Lists) (words : List ℕ) (xs : List (Option Kept)) (long : length ls ≡ w)
+module _ (piece : ℕ → Piece) (n w : ℕ) (ls : List Lists) (words : List ℕ) (xs : List (Option Deposit)) (long : length ls ≡ w)
     (places : (k : ℕ) (l : Lists) → get_elem? ls k ≡ some l → l.number ≡ k) (f : Final (Seen (Ruled piece n w) 0 (home_view w ls)) words xs) where
-  abbrev s : State (Option Kept) View
+  abbrev s : State (Option Deposit) View
   s = f.0
 
   r : Ruled piece n w s

@@ -10,7 +10,7 @@ use Rattle.atomic_table.specs.Table.{Splits, Joins, opening}
 use Rattle.atomic_table.proofs.Lists.{at_set, at_longer, at_snoc, set_here, set_else}
 use Rattle.rv_book.specs.declared.task.Piece.{Piece}
 use Rattle.std.proofs.lemmas.List.Sums.{sum_by_push}
-use Rattle.rv_claim.specs.declared.view.Kept.{Kept}
+use Rattle.rv_claim.specs.declared.view.Deposit.{Deposit}
 use Rattle.rv_claim.specs.declared.view.Lists.{Lists}
 use Rattle.rv_claim.specs.declared.view.View.{View}
 use Rattle.rv_claim.specs.Views.{fresh, pass_view, home_view, spent_view, drew, put, put_by, waits, past, numbered, each_one, in_view, total}
@@ -114,7 +114,7 @@ module _ (piece : ℕ → Piece) (n w : ℕ) where
   no_words (suc k) zero = refl
   no_words (suc k) (suc i) = no_words k i
 
-  nones : (k i : ℕ) → i < k → let nothing : Option Kept = None in get_elem? (map some (replicate k nothing)) i ≡ some (some nothing)
+  nones : (k i : ℕ) → i < k → let nothing : Option Deposit = None in get_elem? (map some (replicate k nothing)) i ≡ some (some nothing)
   nones zero i lt = absurd (omega arith)
   nones (suc k) zero lt = refl
   nones (suc k) (suc i) lt = nones k i (omega arith)

@@ -2,7 +2,7 @@
 use Rattle.std.proofs.Common.{◌≡◌, ℕ, suc, ◌+◌, ◌-◌, ◌%◌, ◌^◌, ◌<◌, Bool, true, false, ◌||◌, List, [], ◌∷◌, ◌++◌, sym, refl, ap, ◌∙◌, subst, arith}
 use Rattle.std.specs.Prelude.{Some, None, ◌==◌}
 use Rattle.atomic_table.specs.Table.{Allows, Splits, Joins, rest}
-use Rattle.rv_claim.specs.declared.view.Kept.{Kept}
+use Rattle.rv_claim.specs.declared.view.Deposit.{Deposit}
 use Rattle.rv_book.specs.declared.task.Piece.{Piece}
 use Rattle.rv_claim.specs.declared.view.Lists.{Lists}
 use Rattle.rv_claim.specs.declared.view.View.{View}
@@ -59,7 +59,7 @@ module _ (i : ℕ) where
       left_false false b h = refl
 
 -- a seat that has opened a slot, and then put a piece into it
-pub held : (l : Lists) (i j : ℕ) (k : Kept) (me0 me1 me2 : Seat) → me0 ≡ (pass_view l, []) → j ≡ i
+pub held : (l : Lists) (i j : ℕ) (k : Deposit) (me0 me1 me2 : Seat) → me0 ≡ (pass_view l, []) → j ≡ i
     → me1 ≡ (with_own me0.0 (opens me0.0.own j), (j, None) ∷ me0.1) → me2 ≡ (me1.0, (i, Some k) ∷ rest me1.1) → me2 ≡ (pass_view (opens l i), (i, Some k) ∷ [])
 held l i j k me0 me1 me2 a e b c =
     let opened : me1 ≡ (pass_view (opens l i), (i, None) ∷ []) =

@@ -14,7 +14,7 @@ use Rattle.atomic_table.proofs.Lists.{at_set, set_here, set_else}
 use Rattle.rv_book.specs.declared.task.Piece.{Piece}
 use Rattle.std.proofs.lemmas.List.Sums.{sum_by-cons}
 use Rattle.rv_book.specs.Board.{is_in}
-use Rattle.rv_claim.specs.declared.view.Kept.{Kept}
+use Rattle.rv_claim.specs.declared.view.Deposit.{Deposit}
 use Rattle.rv_claim.specs.declared.view.Lists.{Lists}
 use Rattle.rv_claim.specs.declared.view.View.{View}
 use Rattle.rv_claim.specs.Views.{kept, fresh, pass_view, draws, opens, fills, is_past, last_past, drew, put, put_by, waits, past, numbered, each_one, in_view, total}
@@ -23,10 +23,10 @@ use Rattle.rv_claim.specs.Rule.{Numbers, Fits, EachFits, SlotFits, Ruled}
 use Rattle.rv_claim.proofs.Totals.{sum_at, sum_le, sum_gap, in_view_le, total_both, one_more, gap_more, one_le, times_push, past_push}
 
 abbrev pub St : Type 0
-St = State (Option Kept) View
+St = State (Option Deposit) View
 
 abbrev pub Seat : Type 0
-Seat = Me (Option Kept) View
+Seat = Me (Option Deposit) View
 
 below_one : (n x : ℕ) (b : Bool) → (nat_le n x || b) ≡ false → nat_lt x n ≡ true
 below_one n x true h = absurd (true≢false (sym (or-true (nat_le n x)) ∙ h))
@@ -222,7 +222,7 @@ module _ (piece : ℕ → Piece) (n w : ℕ) where
       → Allows (Ruled piece n w) slots id (pass_view l, (i, Some (kept l.number (piece i))) ∷ []) (suc i) (λ k. (k + 1) % 2 ^ 64) (λ found me. (found ≡ 1) × (me ≡ (pass_view (fills l i), [])))
   fills_slot slots id l i pending lt s r _ at _ =
       let m : Lists = fills l i in
-      let y : Option Kept = Some (kept l.number (piece i)) in
+      let y : Option Deposit = Some (kept l.number (piece i)) in
       let own = (r.lists id (pass_view l) at).0 refl in
       let here : one (i == i) ≡ 1 = grind (arith, nat_tests) in
       let waiting : (j : ℕ) → waits j l ≡ one (i == j) = λ j. ap (λ (o : Option ℕ). waits j (record l { pending = o })) pending in

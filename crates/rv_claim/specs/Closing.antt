@@ -7,7 +7,7 @@ use Rattle.rv_book.specs.declared.task.Piece.{Piece}
 use Rattle.rv_book.specs.Journal.{entry}
 use Rattle.rv_claim.specs.declared.board.Board.{Board}
 use Rattle.rv_claim.specs.declared.pass.Pass.{Pass}
-use Rattle.rv_claim.specs.declared.view.Kept.{Kept}
+use Rattle.rv_claim.specs.declared.view.Deposit.{Deposit}
 use Rattle.rv_claim.specs.Views.{kept, is_past}
 use Rattle.rv_claim.specs.Passes.{number_of, drawn_of, deposited_of, shards_of, workers_of, IsOf}
 
@@ -24,7 +24,7 @@ entry_by (Some p) i = entry p i ∷ []
 abbrev pub closing : List (List ℕ) → ℕ → List Entry
 closing ds n = flat_map (λ i. entry_by (depositor i ds 0) i) (range_with_len 0 n)
 
-abbrev pub slot_by : (ℕ → Piece) → Option ℕ → ℕ → Option Kept
+abbrev pub slot_by : (ℕ → Piece) → Option ℕ → ℕ → Option Deposit
 slot_by piece None i = None
 slot_by piece (Some p) i = Some (kept p (piece i))
 

@@ -4,8 +4,9 @@ use Rattle.std.specs.Prelude.{◌≡◌, ℕ, suc, ◌+◌, ◌-◌, ◌*◌, �
 use mathlib.Core.Option.{Option as Found, some, none}
 use lib.ListN.{get_elem?}
 use Rattle.atomic_table.specs.Table.{State}
+use Rattle.rv_base.specs.declared.limits.TheConstants.{SHARDS_LIMIT, WORKERS_LIMIT}
 use Rattle.rv_book.specs.declared.task.Piece.{Piece}
-use Rattle.rv_claim.specs.declared.view.Kept.{Kept}
+use Rattle.rv_claim.specs.declared.view.Deposit.{Deposit}
 use Rattle.rv_claim.specs.declared.view.Lists.{Lists}
 use Rattle.rv_claim.specs.declared.view.View.{View}
 use Rattle.rv_claim.specs.Views.{kept, drew, put, put_by, waits, past, numbered, each_one, total, last_past}
@@ -32,13 +33,13 @@ EachFits n v = (v.live ≡ true → Fits n v.own) × ((k : ℕ) (l : Lists) → 
 
 -- A slot that no pass deposited in or has opened is at home and keeps nothing, one that a pass has opened is out, and one that a
 -- pass deposited in is at home and keeps that pass's number and the task's piece.
-pub record SlotFits (piece : ℕ → Piece) (i : ℕ) (views : List View) (home : Found (Found (Option Kept))) : Type 0 where
+pub record SlotFits (piece : ℕ → Piece) (i : ℕ) (views : List View) (home : Found (Found (Option Deposit))) : Type 0 where
   pub empty : total (put i) views ≡ 0 → total (waits i) views ≡ 0 → home ≡ some (some None)
   pub out : 0 < total (waits i) views → home ≡ some none
   pub full : 0 < total (put i) views → (p : ℕ) × (home ≡ some (some (Some (kept p (piece i))))) × (total (put_by p i) views ≡ 1)
 
-pub record Ruled (piece : ℕ → Piece) (n workers : ℕ) (s : State (Option Kept) View) : Type 0 where
-  pub few : (n ≤ 65536) × (workers ≤ 64)
+pub record Ruled (piece : ℕ → Piece) (n workers : ℕ) (s : State (Option Deposit) View) : Type 0 where
+  pub few : (n ≤ SHARDS_LIMIT) × (workers ≤ WORKERS_LIMIT)
   pub sized : (length s.words ≡ n + 1) × (length s.homes ≡ n)
   pub drawn : (x : ℕ) → total (drew x) s.views ≡ one (nat_lt x (slice_index s.words 0))
   pub past : total (past n) s.views ≡ slice_index s.words 0 - n

@@ -3,11 +3,11 @@ use Rattle.std.specs.Prelude.{ℕ, zero, suc, ◌+◌, Bool, true, false, cond, 
 use Rattle.std.specs.List.{list_any}
 use Rattle.rv_book.specs.BoardLaws.{one, times}
 use Rattle.rv_book.specs.declared.task.Piece.{Piece}
-use Rattle.rv_claim.specs.declared.view.Kept.{Kept}
+use Rattle.rv_claim.specs.declared.view.Deposit.{Deposit}
 use Rattle.rv_claim.specs.declared.view.Lists.{Lists}
 use Rattle.rv_claim.specs.declared.view.View.{View}
 
-abbrev pub kept : ℕ → Piece → Kept
+abbrev pub kept : ℕ → Piece → Deposit
 kept p x = record { pass = p; piece = x }
 
 abbrev pub fresh : ℕ → Lists

@@ -13,13 +13,13 @@ ghost use Rattle.rv_claim.specs.Making.{AreMade, own_of};
 use crate::board::Board;
 use crate::pass::Pass;
 use crate::rules::{About, Gathers, Rules};
-use crate::view::{Kept, View};
+use crate::view::{Deposit, View};
 use atomic_table::{Closed, Seat, Table};
 use rv_base::NoMemory;
 use rv_book::{Book, Task};
 use std::alloc::Global;
 
-type Words<T> = Table<Option<Kept>, View, About<T>, Rules<T>, Global>;
+type Words<T> = Table<Option<Deposit>, View, About<T>, Rules<T>, Global>;
 
 impl<T: Task> Board<T> {
     /// Ends the board, and enters what was deposited in a book, in rising order of the indices. After
@@ -43,7 +43,7 @@ impl<T: Task> Board<T> {
         let mut book = Book::open(alloc, task, shards)?;
         let mut closed = end_table(self, passes);
         for i in 0..shards {
-            if let Some(Kept { pass, piece }) = closed.take(i as usize) {
+            if let Some(Deposit { pass, piece }) = closed.take(i as usize) {
                 book.deposit(pass, piece);
             }
         }
@@ -53,7 +53,7 @@ impl<T: Task> Board<T> {
 }
 
 // Home gathers all passes, and ends the table. Each slot then keeps what was deposited.
-fn end_table<T: Task>(board: Board<T>, mut passes: Vec<Pass>) -> Closed<Option<Kept>, Global>
+fn end_table<T: Task>(board: Board<T>, mut passes: Vec<Pass>) -> Closed<Option<Deposit>, Global>
     requires passes { AreAll board passes.items }
     ensures long { slots_len result.slots ≡ shards_of board }
     ensures full { IsFull result.slots }
@@ -73,7 +73,7 @@ fn end_table<T: Task>(board: Board<T>, mut passes: Vec<Pass>) -> Closed<Option<K
 // Home gathers all passes but the first, which it has gathered.
 fn gather_passes<T: Task>(
     table: &Words<T>,
-    home: &mut Seat<Option<Kept>, View>,
+    home: &mut Seat<Option<Deposit>, View>,
     mut passes: Vec<Pass>,
     workers: u32,
 )

@@ -7,7 +7,7 @@ ghost use Rattle.rv_claim.specs.Passes.{IsOf, IsSame, drawn_of, deposited_of, sh
 use crate::board::Board;
 use crate::pass::Pass;
 use crate::rules::{Fills, Opens};
-use crate::view::Kept;
+use crate::view::Deposit;
 use rv_book::{Piece, Task};
 
 impl<T: Task> Board<T> {
@@ -24,7 +24,7 @@ impl<T: Task> Board<T> {
         ensures deposited { deposited_of pass.new ≡ deposited_of pass.old ++ piece.index ∷ [] }
     {
         let slot = piece.index as usize;
-        let kept = Kept {
+        let kept = Deposit {
             pass: pass.number,
             piece,
         };

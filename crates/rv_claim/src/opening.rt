@@ -8,14 +8,15 @@ ghost use Rattle.rv_claim.specs.Making.{AreMore};
 use crate::board::Board;
 use crate::pass::Pass;
 use crate::rules::{About, Makes, Rules};
-use crate::view::{Kept, View};
+use crate::view::{Deposit, View};
 use atomic_table::{Badge, Seat, Table};
 use rv_base::NoMemory;
+use rv_base::limits::{SHARDS_LIMIT, WORKERS_LIMIT};
 use rv_book::Task;
 use std::alloc::Global;
 use std::snapshot::Snapshot;
 
-type Words<T> = Table<Option<Kept>, View, About<T>, Rules<T>, Global>;
+type Words<T> = Table<Option<Deposit>, View, About<T>, Rules<T>, Global>;
 
 impl<T: Task> Board<T> {
     /// A board for the first `n` pieces of a task, and its passes, numbered from 0.
@@ -25,9 +26,9 @@ impl<T: Task> Board<T> {
         n: u32,
         workers: u32,
     ) -> Result<(Board<T>, Vec<Pass>), NoMemory>
-        requires shards { (1 ≤ n) × (n ≤ 65536) }
+        requires shards { (1 ≤ n) × (n ≤ SHARDS_LIMIT) }
         requires bound { n ≤ T.bound task.now }
-        requires workers { (1 ≤ workers) × (workers ≤ 64) }
+        requires workers { (1 ≤ workers) × (workers ≤ WORKERS_LIMIT) }
         ensures board { IfOk result (λ r. (shards_of r.0 ≡ n) × (workers_of r.0 ≡ workers) × (task_of r.0 ≡ task.now)) }
         ensures passes { IfOk result (λ r. AreNew r.0 r.1.items) }
     {
@@ -38,7 +39,7 @@ impl<T: Task> Board<T> {
         let Ok(made) = Table::vacant(alloc, words.as_slice(), n as usize, &about) else {
             return Err(NoMemory);
         };
-        let (table, mut home): (Words<T>, Seat<Option<Kept>, View>) = made;
+        let (table, mut home): (Words<T>, Seat<Option<Deposit>, View>) = made;
         let seat = table.shared.split_seat::<Makes>(&mut home);
         let mut passes = Vec::new(alloc);
         make_passes(&table, &mut home, &mut passes, n, workers)?;
@@ -65,7 +66,7 @@ impl<T: Task> Board<T> {
 // Makes the passes from number 1 on. Number 0 takes home's seat, and is made last.
 fn make_passes<T: Task>(
     table: &Words<T>,
-    home: &mut Seat<Option<Kept>, View>,
+    home: &mut Seat<Option<Deposit>, View>,
     passes: &mut Vec<Pass>,
     shards: u32,
     workers: u32,

@@ -3,14 +3,14 @@
 ghost use Rattle.std.specs.Prelude.{◌≡◌, None, []};
 ghost use Rattle.rv_claim.specs.Views.{pass_view, home_views, is_past};
 
-use crate::view::{Kept, View};
+use crate::view::{Deposit, View};
 use atomic_table::{Badge, Seat};
 
 /// What a worker draws and deposits with. It has a number, and contracts see the lists of what it
 /// drew and what it deposited.
 #[derive(Drop)]
 pub struct Pass {
-    pub(crate) seat: Seat<Option<Kept>, View>,
+    pub(crate) seat: Seat<Option<Deposit>, View>,
     // home's seat, in pass 0 alone
     pub(crate) home: Badge<View>,
     pub(crate) number: u32,

@@ -4,7 +4,7 @@ ghost use Rattle.std.specs.Prelude.{◌≡◌, ◌-◌, ◌+◌, false, None, So
 ghost use Rattle.rv_book.specs.Board.{is_in};
 ghost use Rattle.rv_claim.specs.Views.{draws, opens, fills, with_own, with_one_more, with_gathered, fresh, pass_view, home_view, spent_view};
 
-use crate::view::{Kept, View};
+use crate::view::{Deposit, View};
 use atomic_table::{Join, Play, Split, TableRule};
 use rv_book::Task;
 use std::marker::PhantomData;
@@ -18,7 +18,7 @@ pub struct Rules<T> {
     task: PhantomData<T>,
 }
 
-impl<T: Task> TableRule<Option<Kept>, View, About<T>> for Rules<T> {
+impl<T: Task> TableRule<Option<Deposit>, View, About<T>> for Rules<T> {
     ghost use Rattle.rv_claim.specs.Rule.{Ruled};
 
     ghost holds = { λ about. Ruled (T.piece about.2.value) about.0 about.1 };
@@ -29,21 +29,21 @@ impl<T: Task> TableRule<Option<Kept>, View, About<T>> for Rules<T> {
 /// A claim: the number is new to the pass.
 pub struct Draws;
 
-impl Play<Option<Kept>, View> for Draws {
+impl Play<Option<Deposit>, View> for Draws {
     ghost then = { λ step me found after. (is_in found me.0.own.drawn ≡ false) × (after ≡ (with_own me.0 (draws me.0.own found), me.1)) };
 }
 
 /// A slot is opened: its mark was 0, and it kept nothing.
 pub struct Opens;
 
-impl Play<Option<Kept>, View> for Opens {
+impl Play<Option<Deposit>, View> for Opens {
     ghost then = { λ step me found after. (found ≡ 0) × (after ≡ (with_own me.0 (opens me.0.own (step.word - 1)), (step.word - 1, None) ∷ me.1)) };
 }
 
 /// A slot is filled: its mark was 1.
 pub struct Fills;
 
-impl Play<Option<Kept>, View> for Fills {
+impl Play<Option<Deposit>, View> for Fills {
     ghost then = { λ step me found after. (found ≡ 1) × (after ≡ (with_own me.0 (fills me.0.own (step.word - 1)), [])) };
 }
 

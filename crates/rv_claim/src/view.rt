@@ -5,7 +5,7 @@ use std::collections::LinkedList;
 
 /// A piece with the number of the pass that deposited it.
 #[derive(Drop)]
-pub struct Kept {
+pub struct Deposit {
     pub pass: u32,
     pub piece: Piece,
 }

@@ -268,7 +268,7 @@ module _ (entry : ℕ) (ps : List PartBytes) (small : entry < 2 ^ 32) (aligned :
       let is = image-is 1 F (no_fault entry ps small aligned few w room apart) in
       let behind = behind_table entry ps small aligned few w room apart in
       record {
-        held = λ a. held_by_parts F a (image_byte (image 1 F) a) o ps behind
+        within = λ a. held_by_parts F a (image_byte (image 1 F) a) o ps behind
             (subst (AllByRecursion (λ s. TakesByteAt s a → image_byte (image 1 F) a ≡ slice_index F (s.offset + (a - s.address)))) loads (is.taken a));
         elsewhere = λ a none. is.elsewhere a (subst (AllByRecursion (λ s. ¬ (TakesByteAt s a))) (sym loads) (outside_segments F a (image_byte (image 1 F) a) o ps none));
       }

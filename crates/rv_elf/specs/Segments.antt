@@ -1,6 +1,7 @@
 -- What the code keeps of the program headers.
 use Rattle.std.specs.Prelude.{◌≡◌, ℕ, ◌+◌, ◌^◌, ◌==◌, nat_lt, List, map, length, take, filter}
 use Rattle.std.specs.List.{list_any}
+use Rattle.rv_base.specs.declared.limits.TheConstants.{SEGMENTS_LIMIT}
 use Rattle.rv_spec.specs.Elf.{Segment as Described}
 use Rattle.rv_elf.specs.declared.segment.Segment.{Segment}
 use Rattle.rv_elf.specs.declared.scan.Scan.{Scan}
@@ -18,5 +19,5 @@ pub record IsScan (size : ℕ) (hs : List Described) (s : Scan) : Type 0 where
   pub past_file : s.past_file ≡ list_any (λ h. nat_lt size (h.offset + h.file_size)) (loads_of hs)
   pub above_memory : s.above_memory ≡ list_any (λ h. nat_lt h.memory_size h.file_size) (loads_of hs)
   pub past_memory : s.past_memory ≡ list_any (λ h. nat_lt (2 ^ 32) (h.address + h.memory_size)) (loads_of hs)
-  pub too_many : s.too_many ≡ nat_lt 64 (length (loads_of hs))
-  pub loads : map described s.loads.items ≡ take 64 (loads_of hs)
+  pub too_many : s.too_many ≡ nat_lt SEGMENTS_LIMIT (length (loads_of hs))
+  pub loads : map described s.loads.items ≡ take SEGMENTS_LIMIT (loads_of hs)

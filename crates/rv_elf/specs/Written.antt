@@ -30,7 +30,7 @@ IsWithin p a = (p.address ≤ a) × (a < p.address + length p.bytes)
 
 -- An image has, address by address, the bytes of these parts, and 0 elsewhere.
 pub record HoldsParts (ps : List PartBytes) (i : Image) : Type 0 where
-  pub held : (a : ℕ) → AllByRecursion (λ p. IsWithin p a → image_byte i a ≡ slice_index p.bytes (a - p.address)) ps
+  pub within : (a : ℕ) → AllByRecursion (λ p. IsWithin p a → image_byte i a ≡ slice_index p.bytes (a - p.address)) ps
   pub elsewhere : (a : ℕ) → AllByRecursion (λ p. ¬ (IsWithin p a)) ps → image_byte i a ≡ 0
 
 -- ---- how it is written

@@ -12,7 +12,9 @@ ghost use Rattle.rv_elf.specs.Loaded.{loaded};
 use crate::index::last_begun;
 use crate::segment::Segment;
 use arrayvec::ArrayVec;
+use rv_base::cells::REGISTER_CELLS;
 use rv_base::get32;
+use rv_base::limits::SEGMENTS_LIMIT;
 use std::marker::Model;
 
 /// What an executable loads: its entry, and the bytes that its segments take from the file, which the image
@@ -22,7 +24,7 @@ pub struct Image<'a> {
     version: u8,
     entry: u32,
     file: &'a [u8],
-    index: ArrayVec<Segment, 64>,
+    index: ArrayVec<Segment, SEGMENTS_LIMIT>,
 }
 
 impl<'a> Model for Image<'a> {
@@ -38,7 +40,11 @@ impl<'a> Model for Image<'a> {
 
 impl<'a> Image<'a> {
     /// The image of a file without a fault, from its entry and its segments by rising address.
-    pub(crate) fn of(file: &'a [u8], entry: u32, index: ArrayVec<Segment, 64>) -> Image<'a>
+    pub(crate) fn of(
+        file: &'a [u8],
+        entry: u32,
+        index: ArrayVec<Segment, SEGMENTS_LIMIT>,
+    ) -> Image<'a>
         requires faultless { first_fault file.now ≡ None }
         requires entry { entry ≡ u32_at file.now 24 }
         requires indexed { IsIndex index.items (load_segments file.now) }
@@ -108,7 +114,7 @@ impl<'a> Image<'a> {
     /// Word w of memory before the first step: the bytes at addresses 4w to 4w + 3, the least significant
     /// first, each 0 where no segment takes it from the file.
     pub fn word(&self, w: u32) -> u32
-        requires { w < 2 ^ 30 }
+        requires { w < REGISTER_CELLS }
         ensures { result ≡ word (loaded self.now) w }
     {
         word_at(self.file, self.index.as_slice(), 4 * w)

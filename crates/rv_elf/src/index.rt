@@ -8,10 +8,11 @@ ghost use Rattle.rv_elf.specs.Index.{IsIndex, AreRising, AreBegun, IsLastOf};
 
 use crate::segment::Segment;
 use arrayvec::ArrayVec;
+use rv_base::limits::SEGMENTS_LIMIT;
 
 /// The segments that take bytes from the file, by rising address.
-pub fn by_address(loads: &[Segment]) -> ArrayVec<Segment, 64>
-    requires few { length loads.now ≤ 64 }
+pub fn by_address(loads: &[Segment]) -> ArrayVec<Segment, SEGMENTS_LIMIT>
+    requires few { length loads.now ≤ SEGMENTS_LIMIT }
     requires fits { All (λ s. s.file_size ≤ s.memory_size) loads.now }
     requires apart { some_overlap (map described loads.now) ≡ false }
     ensures { IsIndex result.items (map described loads.now) }

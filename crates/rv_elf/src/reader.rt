@@ -11,12 +11,13 @@ use crate::image::Image;
 use crate::index::by_address;
 use crate::scan::Scan;
 use crate::segment::some_overlap;
+use rv_base::limits::ELF_LIMIT;
 use rv_base::{get16, get32};
 
 /// The image of an executable of at most 67,108,864 bytes, or its fault with the least number. It takes no
 /// memory, and its time is linear in the number of program headers.
 pub fn read(file: &[u8]) -> Result<Image<'_>, ElfFault>
-    requires { length file.now ≤ 67108864 }
+    requires { length file.now ≤ ELF_LIMIT }
     ensures faultless { IfOk result (λ i. first_fault file.now ≡ None) }
     ensures image { IfOk result (λ i. i ≡ image 1 file.now) }
     ensures bytes { IfOk result (λ i. IsImage file.now i) }
@@ -34,7 +35,7 @@ pub fn read(file: &[u8]) -> Result<Image<'_>, ElfFault>
 
 /// The faults of the ELF header, those with the numbers 1 to 9.
 fn check_header(file: &[u8]) -> Result<(), ElfFault>
-    requires { length file.now ≤ 67108864 }
+    requires { length file.now ≤ ELF_LIMIT }
     ensures clear { IfOk result (λ _. IsClear 9 file.now) }
     ensures fault { IfErr result (λ e. first_fault file.now ≡ Some (number_of e)) }
 {

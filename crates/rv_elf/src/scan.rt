@@ -7,10 +7,8 @@ ghost use Rattle.rv_elf.specs.Segments.{described, IsScan};
 
 use crate::segment::{HEADER_SIZE, PT_INTERP, PT_LOAD, Segment};
 use arrayvec::ArrayVec;
+use rv_base::limits::SEGMENTS_LIMIT;
 use rv_base::{get16, get32};
-
-/// The most PT_LOAD segments that are read.
-pub const MOST_SEGMENTS: usize = 64;
 
 /// What the program headers have, up to one of them: each fault by itself, so that no fault ends the pass
 /// before one with a lower number is known.
@@ -22,7 +20,7 @@ pub struct Scan {
     pub past_memory: bool,
     pub too_many: bool,
     /// The PT_LOAD segments in order, the first 64 of them.
-    pub loads: ArrayVec<Segment, 64>,
+    pub loads: ArrayVec<Segment, SEGMENTS_LIMIT>,
 }
 
 impl Scan {
@@ -68,10 +66,10 @@ impl Scan {
         ensures past_file { self.new.past_file ≡ (self.old.past_file || nat_lt file_size (segment.now.offset + segment.now.file_size)) }
         ensures above_memory { self.new.above_memory ≡ (self.old.above_memory || nat_lt segment.now.memory_size segment.now.file_size) }
         ensures past_memory { self.new.past_memory ≡ (self.old.past_memory || nat_lt (2 ^ 32) (segment.now.address + segment.now.memory_size)) }
-        ensures full { array_vec_len self.old.loads ≡ 64 → (self.new.too_many ≡ true) × (self.new.loads ≡ self.old.loads) }
-        ensures room { array_vec_len self.old.loads < 64 → (self.new.too_many ≡ self.old.too_many)
+        ensures full { array_vec_len self.old.loads ≡ SEGMENTS_LIMIT → (self.new.too_many ≡ true) × (self.new.loads ≡ self.old.loads) }
+        ensures room { array_vec_len self.old.loads < SEGMENTS_LIMIT → (self.new.too_many ≡ self.old.too_many)
             × (self.new.loads.items ≡ self.old.loads.items ++ segment.now ∷ []) }
-        ensures fits { array_vec_len self.old.loads ≤ 64 }
+        ensures fits { array_vec_len self.old.loads ≤ SEGMENTS_LIMIT }
     {
         self.past_file |= segment.file_end() > file_size;
         self.above_memory |= segment.file_size > segment.memory_size;

@@ -8,6 +8,7 @@ ghost use Rattle.rv_elf.specs.Written.{with_bytes, segment_of, image_of_parts, A
 
 use crate::segment::{HEADER_SIZE, PT_LOAD};
 use rv_base::NoMemory;
+use rv_base::limits::{ELF_LIMIT, SEGMENTS_LIMIT};
 use std::alloc::{AllocError, Global};
 
 /// e_ident, e_type and e_machine: 32 bits, the least significant byte first, ET_EXEC, RISC-V.
@@ -33,13 +34,13 @@ pub struct Part {
 /// the first part, then those of the next and so on, `len` bytes for each. Reading it gives the entry, each
 /// part's bytes from its address on, and 0 elsewhere.
 pub fn write(alloc: Global, entry: u32, parts: &[Part], bytes: &[u8]) -> Result<Vec<u8>, NoMemory>
-    requires few { length parts.now ≤ 64 }
+    requires few { length parts.now ≤ SEGMENTS_LIMIT }
     requires aligned { entry % 4 ≡ 0 }
     requires fit { AllByRecursion (λ p. p.len ≤ p.size) parts.now }
     requires whole { sum_by (λ p. p.len) parts.now ≡ length bytes.now }
     requires in_memory { AllByRecursion (λ p. p.addr + p.size ≤ 2 ^ 32) parts.now }
     requires apart { some_overlap (map segment_of parts.now) ≡ false }
-    requires within_limit { 52 + 32 * length parts.now + length bytes.now ≤ 67108864 }
+    requires within_limit { 52 + 32 * length parts.now + length bytes.now ≤ ELF_LIMIT }
     ensures file { IfOk result (λ v. v.items ≡ elf_file entry (with_bytes parts.now bytes.now)) }
     ensures size { IfOk result (λ v. length v.items ≡ 52 + 32 * length parts.now + length bytes.now) }
     ensures faultless { IfOk result (λ v. first_fault v.items ≡ None) }
@@ -53,9 +54,9 @@ pub fn write(alloc: Global, entry: u32, parts: &[Part], bytes: &[u8]) -> Result<
 }
 
 fn write_all(alloc: Global, entry: u32, parts: &[Part], bytes: &[u8]) -> Result<Vec<u8>, AllocError>
-    requires few { length parts.now ≤ 64 }
+    requires few { length parts.now ≤ SEGMENTS_LIMIT }
     requires whole { sum_by (λ p. p.len) parts.now ≡ length bytes.now }
-    requires within_limit { 52 + 32 * length parts.now + length bytes.now ≤ 67108864 }
+    requires within_limit { 52 + 32 * length parts.now + length bytes.now ≤ ELF_LIMIT }
     ensures file { IfOk result (λ v. v.items ≡ elf_header entry (length parts.now) ++ header_table (52 + 32 * length parts.now) parts.now ++ bytes.now) }
     ensures ranges { IfOk result (λ _. AllByRecursion AreWords parts.now) }
 {

@@ -8,6 +8,7 @@ ghost use Rattle.rv_mem.specs.Words.{ArePages, first_word};
 use crate::directory::{Directory, ENTRIES};
 use crate::page::{Page, list_used};
 use crate::word::Word;
+use rv_base::cells::REGISTER_CELLS;
 use rv_base::{NoMemory, TableEntry};
 use rv_elf::Image;
 use std::alloc::Global;
@@ -38,7 +39,7 @@ impl<'a> Words<'a> {
 
     /// Word `w` of memory.
     pub fn get(&self, w: u32) -> Word
-        requires { w < 2 ^ 30 }
+        requires { w < REGISTER_CELLS }
         ensures { result ≡ stored_word self.now w }
     {
         match self.directory.find(w as usize / 16) {
@@ -52,11 +53,11 @@ impl<'a> Words<'a> {
 
     /// Sets word `w` of memory.
     pub fn set(&mut self, w: u32, word: Word) -> Result<(), NoMemory>
-        requires { w < 2 ^ 30 }
+        requires { w < REGISTER_CELLS }
         ensures image { self.new.image ≡ self.old.image }
         ensures ok { OnOk result (stored_word self.new w ≡ word) }
         ensures err { OnErr result (stored_word self.new w ≡ stored_word self.old w) }
-        ensures others { (other : ℕ) → other < 2 ^ 30 → other ≢ w → stored_word self.new other ≡ stored_word self.old other }
+        ensures others { (other : ℕ) → other < REGISTER_CELLS → other ≢ w → stored_word self.new other ≡ stored_word self.old other }
     {
         let index = self.page_for(w as usize / 16)?;
         self.pages[index].words[w as usize % 16] = word;
@@ -68,7 +69,7 @@ impl<'a> Words<'a> {
         requires { page < 2 ^ 26 }
         ensures image { self.new.image ≡ self.old.image }
         ensures made { IfOk result (λ index. page_number self.new.directory.entries.items page ≡ index + 1) }
-        ensures same { (w : ℕ) → w < 2 ^ 30 → stored_word self.new w ≡ stored_word self.old w }
+        ensures same { (w : ℕ) → w < REGISTER_CELLS → stored_word self.new w ≡ stored_word self.old w }
     {
         match self.directory.find(page) {
             Some(index) => Ok(index),
@@ -82,7 +83,7 @@ impl<'a> Words<'a> {
         requires absent { page_number self.old.directory.entries.items page ≡ 0 }
         ensures image { self.new.image ≡ self.old.image }
         ensures made { IfOk result (λ index. page_number self.new.directory.entries.items page ≡ index + 1) }
-        ensures same { (w : ℕ) → w < 2 ^ 30 → stored_word self.new w ≡ stored_word self.old w }
+        ensures same { (w : ℕ) → w < REGISTER_CELLS → stored_word self.new w ≡ stored_word self.old w }
     {
         self.directory.reserve(page)?;
         let index = self.pages.len();
@@ -99,7 +100,7 @@ impl<'a> Words<'a> {
 
     /// The words that were used, by rising number.
     pub fn touched(&self) -> Result<Vec<TableEntry>, NoMemory>
-        ensures { IfOk result (λ entries. entries.items ≡ used (stored_word self.now) 0 (2 ^ 30)) }
+        ensures { IfOk result (λ entries. entries.items ≡ used (stored_word self.now) 0 (REGISTER_CELLS)) }
     {
         let mut entries = Vec::new(*self.pages.allocator());
         for leaf in 0..ENTRIES {

@@ -6,6 +6,7 @@ ghost use Rattle.rv_spec.specs.Digest.{Lanes as LanesOf, digest};
 
 use crate::adder::Adder;
 use rv_base::Tuple;
+use rv_base::cells::REGISTER_CELLS;
 use rv_digest::{Lanes, SetDigest};
 use std::alloc::{AllocError, Global};
 
@@ -89,7 +90,7 @@ impl Pairing {
 fn place_of(cell: u32) -> usize
     ensures { result < 1056 }
 {
-    if cell < 0x4000_0000 {
+    if cell < REGISTER_CELLS {
         REGISTERS + cell as usize % WORDS
     } else {
         cell as usize % REGISTERS

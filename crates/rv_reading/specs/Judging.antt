@@ -1,5 +1,7 @@
 -- The machine judges a file as the definition by whole parts does, also where its first bytes come in front, and the state after a piece tells what has been found.
 use Rattle.std.specs.Prelude.{◌≡◌, ◌↔◌, ◌<◌, ℕ, ◌+◌, true, Bool, List, ◌++◌, length, drop, None, Ok, Err}
+use Rattle.rv_base.specs.declared.rules.TheConstants.{SHORT}
+use Rattle.rv_base.specs.declared.layout.TheConstants.{HEADER_BYTES}
 use Rattle.rv_base.specs.declared.record.Header.{Header}
 use Rattle.rv_base.specs.declared.record.Refusal.{Refusal}
 use Rattle.rv_spec.specs.Digest.{Lanes}
@@ -21,11 +23,11 @@ VerdictIsTold = (lanes : Lanes) (elf input file : List ℕ) → verdict lanes el
 
 -- the bytes are a header and the output that it states
 abbrev pub IsFront : List ℕ → Type 0
-IsFront front = length front ≡ 173 + (header_of front).length
+IsFront front = length front ≡ HEADER_BYTES + (header_of front).length
 
 -- what comes of a front, where these bytes follow and no more
 abbrev pub outcome_behind : Bool → Lanes → List ℕ → List ℕ → List ℕ → List ℕ → State Phase
-outcome_behind complete lanes elf input front bytes = outcome (step complete lanes elf input (header_of front) (drop 173 front)) (opened complete lanes elf input front) bytes
+outcome_behind complete lanes elf input front bytes = outcome (step complete lanes elf input (header_of front) (drop HEADER_BYTES front)) (opened complete lanes elf input front) bytes
 
 abbrev pub FrontIsJudged : Type 0
 FrontIsJudged = (complete : Bool) (lanes : Lanes) (elf input front bytes : List ℕ) → IsFront front → judged complete lanes elf input (front ++ bytes) ≡ outcome_behind complete lanes elf input front bytes
@@ -40,18 +42,18 @@ RefusedAtFront = (complete : Bool) (lanes : Lanes) (elf input file : List ℕ) (
 -- A front of any length that is refused by another rule than 1 is refused so, whatever follows.
 abbrev pub FrontStaysRefused : Type 0
 FrontStaysRefused = (complete : Bool) (lanes : Lanes) (elf input front bytes : List ℕ) (r : Refusal)
-    → opened complete lanes elf input front ≡ Err r → ¬ (r.rule ≡ 1) → judged complete lanes elf input (front ++ bytes) ≡ Err r
+    → opened complete lanes elf input front ≡ Err r → ¬ (r.rule ≡ SHORT) → judged complete lanes elf input (front ++ bytes) ≡ Err r
 
 -- ---- the state after some bytes
 
 -- the state behind a front and then these bytes
 abbrev pub state_behind : Bool → Lanes → List ℕ → List ℕ → List ℕ → List ℕ → State Phase
-state_behind complete lanes elf input front bytes = feed (step complete lanes elf input (header_of front) (drop 173 front)) (opened complete lanes elf input front) bytes
+state_behind complete lanes elf input front bytes = feed (step complete lanes elf input (header_of front) (drop HEADER_BYTES front)) (opened complete lanes elf input front) bytes
 
 -- The state is a refusal exactly where the file's bytes so far are refused by another rule than 1.
 abbrev pub StateTellsFile : Type 0
 StateTellsFile = (complete : Bool) (lanes : Lanes) (elf input front bytes : List ℕ) (r : Refusal)
-    → IsFront front → (state_behind complete lanes elf input front bytes ≡ Err r) ↔ ((judged complete lanes elf input (front ++ bytes) ≡ Err r) × (¬ (r.rule ≡ 1)))
+    → IsFront front → (state_behind complete lanes elf input front bytes ≡ Err r) ↔ ((judged complete lanes elf input (front ++ bytes) ≡ Err r) × (¬ (r.rule ≡ SHORT)))
 
 -- Then the file is refused so, whatever follows.
 abbrev pub FileStaysRefused : Type 0
@@ -62,7 +64,7 @@ FileStaysRefused = (complete : Bool) (lanes : Lanes) (elf input front bytes more
 abbrev pub FileStateWaits : Type 0
 FileStateWaits = (complete : Bool) (lanes : Lanes) (elf input front bytes : List ℕ) (s : Phase × List ℕ)
     → state_behind complete lanes elf input front bytes ≡ Ok s
-    → (patient (step complete lanes elf input (header_of front) (drop 173 front)) s.0 s.1 ≡ Ok None) × (length s.1 < 256)
+    → (patient (step complete lanes elf input (header_of front) (drop HEADER_BYTES front)) s.0 s.1 ≡ Ok None) × (length s.1 < 256)
 
 -- ---- from any phase on
 
@@ -93,7 +95,7 @@ CutsDontMatter move = (s : State Phase) (piece rest : List ℕ) → outcome move
 
 -- A state is a refusal exactly where the bytes so far are refused by another rule than 1.
 abbrev pub StateTellsRefusals : StepOf Phase → Type 0
-StateTellsRefusals move = (p : Phase) (bytes : List ℕ) (r : Refusal) → (settle move p bytes ≡ Err r) ↔ ((reads move p bytes ≡ Err r) × (¬ (r.rule ≡ 1)))
+StateTellsRefusals move = (p : Phase) (bytes : List ℕ) (r : Refusal) → (settle move p bytes ≡ Err r) ↔ ((reads move p bytes ≡ Err r) × (¬ (r.rule ≡ SHORT)))
 
 -- Then whatever follows is refused so.
 abbrev pub RefusalsStay : StepOf Phase → Type 0

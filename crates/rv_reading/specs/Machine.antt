@@ -1,5 +1,7 @@
 -- The reading of a record file behind its header and output, phase by phase, with the digests of what it has read as running sums.
 use Rattle.std.specs.Prelude.{ℕ, zero, suc, ◌+◌, ◌*◌, Bool, true, false, ◌&&◌, List, [], ◌∷◌, ◌++◌, length, drop, map, replicate, Option, Some, None, Result, Ok, Err, take, bytes_eq, slice_index, nat_lt, nat_le, ◌==◌, if◌then◌else◌}
+use Rattle.rv_base.specs.declared.rules.TheConstants.{SHORT, SHARD_HEAD, ROW_BYTES, SHARD_DIGEST, TABLE_ORDER, TABLE_CELL, TABLE_TIME, LEFT, BALANCE, TRAILING}
+use Rattle.rv_base.specs.declared.layout.TheConstants as at
 use Rattle.rv_base.specs.declared.record.Header.{Header}
 use Rattle.rv_base.specs.declared.record.Place.{Place}
 use Rattle.rv_base.specs.declared.record.Refusal.{Refusal}
@@ -17,7 +19,7 @@ use Rattle.rv_rules.specs.Sums.{add_lanes}
 use Rattle.rv_spec.specs.Tuples.{Event, event, events, tuple_read, tuple_written, tuple_last, tuple_first}
 use Rattle.rv_spec.specs.Record.{Shard, shard_rows, row_length}
 use Rattle.rv_rules.specs.Checks.{Check, unless_broken, ◌>>=◌}
-use Rattle.rv_rules.specs.Reading.{head_of, row_of, digest_of, entry_of, same_place, row_form, above, when_complete, row_checks_when_complete, next_place, header_of, header_checks, first_place}
+use Rattle.rv_rules.specs.Reading.{head_of, row_of, digest_of, entry_of, same_place, row_form, row_size, above, when_complete, row_checks_when_complete, next_place, header_of, header_checks, first_place}
 use Rattle.rv_reading.specs.Stream.{Found, State, reads, until}
 
 -- the digests of what was read and of what was written
@@ -117,36 +119,36 @@ last_cell before (e ∷ es) = last_cell (Some e.cell) es
 
 module _ (complete : Bool) (lanes : Lanes) (elf input : List ℕ) (h : Header) (output : List ℕ) where
   abbrev pub good_digests : List ℕ → Sums → Bool
-  good_digests bytes s = when_complete complete lanes elf input (bytes_eq (digest_of bytes) s.reads && bytes_eq (digest_of (drop 128 bytes)) s.writes)
+  good_digests bytes s = when_complete complete lanes elf input (bytes_eq (digest_of bytes) s.reads && bytes_eq (digest_of (drop at.DIGEST_BYTES bytes)) s.writes)
 
   -- the next phase, or the first broken check
   unfoldable pub step : Phase → List ℕ → Found Phase
-  step (Shards zero i p all) bytes = on_if h.shards 0 ((1, nat_le 4 (length bytes)) ∷ []) (Entries (u32_at bytes 0) 0 None p all) (drop 4 bytes)
+  step (Shards zero i p all) bytes = on_if h.shards 0 ((SHORT, nat_le at.COUNT_BYTES (length bytes)) ∷ []) (Entries (u32_at bytes 0) 0 None p all) (drop at.COUNT_BYTES bytes)
   step (Shards (suc n) i p all) bytes =
       let head = head_of bytes in
       let rows = shard_rows h.size h.steps i in
-      on_if i 0 ((1, nat_le 32 (length bytes)) ∷ (9, head.index == i && head.rows == rows && when_complete complete lanes elf input (same_place head p)) ∷ []) (Rows rows 0 n i (begin_shard head) p all) (drop 32 bytes)
+      on_if i 0 ((SHORT, nat_le at.HEAD_BYTES (length bytes)) ∷ (SHARD_HEAD, head.index == i && head.rows == rows && when_complete complete lanes elf input (same_place head p)) ∷ []) (Rows rows 0 n i (begin_shard head) p all) (drop at.HEAD_BYTES bytes)
   step (Rows zero r m i s p all) bytes =
-      on_if i r ((20, s.bytes == s.head.bytes) ∷ (1, nat_le 256 (length bytes)) ∷ (21, good_digests bytes s.sums) ∷ []) (Shards m (i + 1) p (with_sums complete lanes all s.sums)) (drop 256 bytes)
+      on_if i r ((ROW_BYTES, s.bytes == s.head.bytes) ∷ (SHORT, nat_le at.DIGESTS_BYTES (length bytes)) ∷ (SHARD_DIGEST, good_digests bytes s.sums) ∷ []) (Shards m (i + 1) p (with_sums complete lanes all s.sums)) (drop at.DIGESTS_BYTES bytes)
   step (Rows (suc n) r m i s p all) bytes =
       let row = row_of bytes in
       let k = i * h.size + r in
       on_if i r (row_form bytes ++ row_checks_when_complete complete lanes elf input h output row k p)
       (Rows n (r + 1) m i (with_row complete lanes s k row) (next_place complete lanes elf input h row p) all)
-      (drop (9 + 21 * slice_index bytes 8) bytes)
+      (drop (row_size bytes) bytes)
   step (Entries zero j before p all) bytes =
       unless_broken h.shards j
-      ((25, when_complete complete lanes elf input (p.input == h.consumed && p.output == h.length))
-      ∷ (26, when_complete complete lanes elf input (bytes_eq all.reads all.writes))
-      ∷ (27, length bytes == 0)
+      ((LEFT, when_complete complete lanes elf input (p.input == h.consumed && p.output == h.length))
+      ∷ (BALANCE, when_complete complete lanes elf input (bytes_eq all.reads all.writes))
+      ∷ (TRAILING, length bytes == 0)
       ∷ [])
       None
   step (Entries (suc n) j before p all) bytes =
       let e = entry_of bytes in
       on_if h.shards j
-      ((1, nat_le 16 (length bytes)) ∷ (22, above before e.cell) ∷ (23, is_cell h.version e.cell) ∷ (24, nat_lt 0 e.time) ∷ [])
+      ((SHORT, nat_le at.ENTRY_BYTES (length bytes)) ∷ (TABLE_ORDER, above before e.cell) ∷ (TABLE_CELL, is_cell h.version e.cell) ∷ (TABLE_TIME, nat_lt 0 e.time) ∷ [])
       (Entries n (j + 1) (Some e.cell) p (with_tuples complete lanes all (tuple_last e ∷ []) (first_tuple elf h e ∷ [])))
-      (drop 16 bytes)
+      (drop at.ENTRY_BYTES bytes)
 
   -- the step of a reading that goes so far
   abbrev pub step_to : Extent → Phase → List ℕ → Found Phase
@@ -167,7 +169,7 @@ module _ (complete : Bool) (lanes : Lanes) (elf input : List ℕ) where
   abbrev pub judged : List ℕ → State Phase
   judged file = do
     let h = header_of file
-    behind ← unless_broken 0 0 (header_checks complete lanes elf input file) (drop 173 file)
+    behind ← unless_broken 0 0 (header_checks complete lanes elf input file) (drop at.HEADER_BYTES file)
     reads (step complete lanes elf input h (take h.length behind)) (first_phase h) (drop h.length behind)
 
 -- a law of the machine, for form alone and for a program and an input, under every lanes, header and output

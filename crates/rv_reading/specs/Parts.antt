@@ -1,5 +1,7 @@
 -- What the machine reads of each part of a file is what the definition by whole parts reads of it.
 use Rattle.std.specs.Prelude.{◌≡◌, ℕ, zero, ◌+◌, ◌*◌, Bool, List, [], ◌∷◌, ◌++◌, length, drop, map, Option, None, Ok, nat_le}
+use Rattle.rv_base.specs.declared.rules.TheConstants.{SHORT}
+use Rattle.rv_base.specs.declared.layout.TheConstants.{COUNT_BYTES}
 use Rattle.rv_base.specs.declared.record.Header.{Header}
 use Rattle.rv_base.specs.declared.record.Place.{Place}
 use Rattle.rv_base.specs.declared.record.ShardHead.{ShardHead}
@@ -69,6 +71,6 @@ module _ (complete : Bool) (lanes : Lanes) (elf input : List ℕ) (h : Header) (
   abbrev pub TableAloneIsRead : Type 0
   TableAloneIsRead = (i : ℕ) (p : Place) (bytes : List ℕ)
       → runs TableAlone (Shards 0 i p no_sums) bytes
-      ≡ (unless_broken h.shards 0 ((1, nat_le 4 (length bytes)) ∷ []) (drop 4 bytes)
+      ≡ (unless_broken h.shards 0 ((SHORT, nat_le COUNT_BYTES (length bytes)) ∷ []) (drop COUNT_BYTES bytes)
       >>= λ rest. read_entries (u32_at bytes 0) h 0 None rest
       >>= λ x. Ok (Entries zero (u32_at bytes 0) (last_cell None x.0) p (tuple_sums complete lanes (map tuple_last x.0) (map (first_tuple elf h) x.0)), x.1))

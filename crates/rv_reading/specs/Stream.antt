@@ -1,5 +1,6 @@
 -- A reader that goes on from phase to phase, in one go or in any pieces.
 use Rattle.std.specs.Prelude.{◌≡◌, ℕ, zero, suc, ◌<◌, Bool, List, ◌++◌, length, Option, Some, None, Result, Ok, Err, ◌==◌, if◌then◌else◌}
+use Rattle.rv_base.specs.declared.rules.TheConstants.{SHORT}
 use Rattle.rv_base.specs.declared.record.Refusal.{Refusal}
 use Rattle.rv_rules.specs.Checks.{◌>>=◌}
 
@@ -15,7 +16,7 @@ StepOf P = P → List ℕ → Found P
 pub record IsStream (P : Type 0) (step : StepOf P) : Type 0 where
   pub takes : (p q : P) (xs rest : List ℕ) → step p xs ≡ Ok (Some (q, rest)) → length rest < length xs
   pub goes : (p q : P) (xs rest ys : List ℕ) → step p xs ≡ Ok (Some (q, rest)) → step p (xs ++ ys) ≡ Ok (Some (q, rest ++ ys))
-  pub stays : (p : P) (xs ys : List ℕ) (r : Refusal) → step p xs ≡ Err r → ¬ (r.rule ≡ 1) → step p (xs ++ ys) ≡ Err r
+  pub stays : (p : P) (xs ys : List ℕ) (r : Refusal) → step p xs ≡ Err r → ¬ (r.rule ≡ SHORT) → step p (xs ++ ys) ≡ Err r
 
 -- a phase and the bytes from it on, or a refusal
 abbrev pub State : Type 0 → Type 0

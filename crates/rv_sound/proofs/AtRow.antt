@@ -17,7 +17,7 @@ use Rattle.rv_order.proofs.Lemmas.{last_use-most, last_use-in}
 use Rattle.rv_isa.specs.Shape.{AreShaped}
 use Rattle.rv_sound.proofs.RowFollows.{touch_in}
 use Rattle.rv_sound.proofs.RowShape.{InShape, shaped-in}
-use Rattle.rv_sound.proofs.Lists.{differ-left}
+use Rattle.rv_sound.proofs.ListLemmas.{differ-left}
 
 module _ (es before later : List Event) (k : ℕ) (accs : List Access) (split : es ≡ before ++ (map (event k) accs ++ later)) (differ : AllDiffer (map (λ e. e.time) es))
     (early : AllByRecursion (λ e. e.time < time_of k 0) before) (late : AllByRecursion (λ e. time_of (k + 1) 0 ≤ e.time) later)

@@ -33,7 +33,7 @@ use Rattle.rv_sound.proofs.RowShape.{InShape, shaped-in, left-as-found}
 use Rattle.rv_sound.proofs.AtRow.{last-up-to-row, held-before-or-left-here}
 use Rattle.rv_sound.proofs.RowStep.{left-same}
 use Rattle.rv_sound.proofs.RowsOfRun.{rows-hold}
-use Rattle.rv_sound.proofs.Lists.{all-join, all-map, rows-split}
+use Rattle.rv_sound.proofs.ListLemmas.{all-join, all-map, rows-split}
 
 events-append : (xs ys : List Row) (k : ℕ) → events k (xs ++ ys) ≡ events k xs ++ events (k + length xs) ys
 events-append [] ys k = let none : k ≡ k + 0 = omega arith in ap (λ n. events n ys) none

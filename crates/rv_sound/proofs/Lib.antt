@@ -1,4 +1,4 @@
-pub mod Lists
+pub mod ListLemmas
 pub mod RowFollows
 pub mod Ordered
 pub mod Decided

@@ -20,7 +20,7 @@ use Rattle.rv_sound.specs.Accepted.{RowsHold}
 use Rattle.rv_sound.proofs.RowFollows.{touch_in, RowFollows, row-follows}
 use Rattle.rv_isa.specs.Shape.{AreShaped}
 use Rattle.rv_isa.proofs.Lemmas.{expected-shaped}
-use Rattle.rv_sound.proofs.Lists.{all-join, all-map, map-all, all-weaken}
+use Rattle.rv_sound.proofs.ListLemmas.{all-join, all-map, map-all, all-weaken}
 
 -- ---- numbers that rise
 

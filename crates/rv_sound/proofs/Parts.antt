@@ -26,7 +26,7 @@ use Rattle.rv_isa.proofs.Lemmas.{runs-are-states}
 use Rattle.rv_sound.specs.Accepted.{place_through, RowsHold, entry_place, IsAccepted}
 use Rattle.rv_sound.proofs.Ordered.{ordered}
 use Rattle.rv_sound.proofs.Runs.{AreStepRows, rows-are-steps}
-use Rattle.rv_sound.proofs.Lists.{length-none, rows-split, all-weaken}
+use Rattle.rv_sound.proofs.ListLemmas.{length-none, rows-split, all-weaken}
 use Rattle.rv_sound.proofs.Shards.{AreRows, shards-are-rows, shards-are, shard-starts, shards-suffice, through-append}
 
 -- the parts are those of a run's record, and there is one

@@ -37,7 +37,7 @@ use Rattle.rv_sound.proofs.Shards.{shard-starts, shards-suffice}
 use Rattle.rv_sound.proofs.RowRanges.{row-fits}
 use Rattle.rv_sound.proofs.RowsOfRun.{output-grows, rows-hold, rows-lead}
 use Rattle.rv_sound.proofs.ChainOfRun.{run-same, run-ordered}
-use Rattle.rv_sound.proofs.Lists.{all-join, all-map, rows-split}
+use Rattle.rv_sound.proofs.ListLemmas.{all-join, all-map, rows-split}
 use Rattle.rv_sound.proofs.TableRanges.{entries-fit, entries-count}
 
 -- the bytes of a hash are bytes

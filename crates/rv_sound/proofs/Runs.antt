@@ -31,7 +31,7 @@ use Rattle.rv_isa.specs.Shape.{AreShaped}
 use Rattle.rv_isa.proofs.Lemmas.{run-version, seen-follows}
 use Rattle.rv_sound.proofs.Ordered.{row-shaped, row-below, rows-late}
 use Rattle.rv_sound.proofs.RowStep.{left-same, accesses-same, olds-are-held, slots-show-state, prevs-are-last-uses}
-use Rattle.rv_sound.proofs.Lists.{all-join, next-number, all-weaken}
+use Rattle.rv_sound.proofs.ListLemmas.{all-join, next-number, all-weaken}
 
 -- ---- where a step goes
 

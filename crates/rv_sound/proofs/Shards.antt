@@ -16,7 +16,7 @@ use Rattle.rv_spec.specs.Digest.{Lanes, digest}
 use Rattle.rv_spec.specs.Record.{Shard, shard_rows, rows_length, place_at, shard}
 use Rattle.rv_spec.specs.Grammar.{RowFits, ShardFits, ShardsFit}
 use Rattle.rv_sound.specs.Accepted.{place_through, RowsHold, ShardHolds, ShardsHold}
-use Rattle.rv_sound.proofs.Lists.{all-join, length-none, rows-split, same-front}
+use Rattle.rv_sound.proofs.ListLemmas.{all-join, length-none, rows-split, same-front}
 
 -- ---- how many
 

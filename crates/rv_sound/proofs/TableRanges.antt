@@ -18,7 +18,7 @@ use Rattle.rv_spec.specs.Grammar.{EntryFits, IsRising}
 use Rattle.rv_rules.specs.Chain.{AreOrdered}
 use Rattle.rv_isa.specs.Ranges.{AreCells, StepFits}
 use Rattle.rv_sound.proofs.RowRanges.{HoldsWords, left-word}
-use Rattle.rv_sound.proofs.Lists.{all-join, all-map, all-weaken}
+use Rattle.rv_sound.proofs.ListLemmas.{all-join, all-map, all-weaken}
 
 abbrev TupleFits : ℕ → Tuple → Type 0
 TupleFits version w = IsTrue (is_cell version w.cell) × (w.cell < 2 ^ 30 + 33) × (w.value < 2 ^ 32)

@@ -2,6 +2,7 @@
 use Rattle.std.specs.Prelude.{◌≡◌, ℕ, ◌+◌, ◌-◌, ◌*◌, ◌%◌, ◌^◌, ◌<◌, ◌≤◌, min, max, Bool, false, not, ◌&&◌, ◌||◌, List, [], ◌∷◌, ◌++◌, length, take, drop, map, filter, replicate, Option, slice_index, nat_lt, nat_eq, ◌==◌}
 use Rattle.std.specs.List.{list_any, position_from, range_with_len, starts_with, flat_map, AllByRecursion}
 use Rattle.std.specs.Int.{w16, w32, to_le_bytes}
+use Rattle.rv_base.specs.declared.limits.TheConstants.{SEGMENTS_LIMIT}
 use Rattle.rv_spec.specs.Words.{u16_at, u32_at, Block, block_byte}
 
 -- what a program header says of a segment (gABI, chapter 5, Elf32_Phdr): p_type, p_offset, p_vaddr, p_filesz, p_memsz
@@ -59,7 +60,7 @@ fault_tests file =
     ∷ list_any (λ s. nat_lt (length file) (s.offset + s.file_size)) (load_segments file)
     ∷ list_any (λ s. nat_lt s.memory_size s.file_size) (load_segments file)
     ∷ list_any (λ s. nat_lt (2 ^ 32) (s.address + s.memory_size)) (load_segments file)
-    ∷ nat_lt 64 (length (load_segments file))
+    ∷ nat_lt SEGMENTS_LIMIT (length (load_segments file))
     ∷ some_overlap (load_segments file)
     ∷ not (u32_at file 24 % 4 == 0)
     ∷ []

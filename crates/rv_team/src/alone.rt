@@ -5,12 +5,13 @@ ghost use Rattle.std.specs.List.{range_with_len};
 ghost use Rattle.rv_book.specs.Journal.{IsWhole, entry};
 
 use rv_base::NoMemory;
+use rv_base::limits::SHARDS_LIMIT;
 use rv_book::{Book, Task};
 use std::alloc::Global;
 
 /// Makes the first `n` pieces of a task on this thread, one after another, as pass 0.
 pub fn run_one<'t, T: Task>(alloc: Global, task: &'t T, n: u32) -> Result<Book<'t, T>, NoMemory>
-    requires shards { (1 ≤ n) × (n ≤ 65536) }
+    requires shards { (1 ≤ n) × (n ≤ SHARDS_LIMIT) }
     requires bound { n ≤ T.bound task.now }
     ensures whole { IfOk result (IsWhole (T.piece task.now) n) }
     ensures journal { IfOk result (λ b. b.journal ≡ map (entry 0) (range_with_len 0 n)) }

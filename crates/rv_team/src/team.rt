@@ -7,6 +7,7 @@ ghost use Rattle.rv_claim.specs.Passes.{shards_of, task_of};
 ghost use Rattle.rv_team.specs.Work.{AreDone, AreFresh, IsDone, IsFresh};
 
 use rv_base::NoMemory;
+use rv_base::limits::{SHARDS_LIMIT, WORKERS_LIMIT};
 use rv_book::{Book, Task};
 use rv_claim::{Board, Pass};
 use rv_host::Gate;
@@ -25,9 +26,9 @@ pub fn run_team<'t, T: Task, G: Gate, R: Threads + Wait + Sync>(
     workers: u32,
     gate: &G,
 ) -> Result<Book<'t, T>, NoMemory>
-    requires shards { (1 ≤ n) × (n ≤ 65536) }
+    requires shards { (1 ≤ n) × (n ≤ SHARDS_LIMIT) }
     requires bound { n ≤ T.bound task.now }
-    requires workers { (1 ≤ workers) × (workers ≤ 64) }
+    requires workers { (1 ≤ workers) × (workers ≤ WORKERS_LIMIT) }
     ensures { IfOk result (IsWhole (T.piece task.now) n) }
 {
     let (board, passes) = Board::open(alloc, task, n, workers)?;

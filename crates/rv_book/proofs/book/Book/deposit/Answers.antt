@@ -5,7 +5,7 @@ use Rattle.rv_rules.specs.Sums.{add_lanes}
 use Rattle.rv_book.specs.declared.entry.Entry.{Entry}
 use Rattle.rv_book.specs.declared.task.Piece.{Piece}
 use Rattle.rv_book.specs.Journal.{BookState, entry, with_entry, is_entered, pieces_of}
-use Rattle.rv_book.specs.Book.{IsKept}
+use Rattle.rv_book.specs.Book.{RepresentsBook}
 use Rattle.rv_book.proofs.Entering.{room, enters, not_entered, get_of, none_of, get_below}
 use Rattle.rv_book.proofs.book.Book.deposit.Goals as goal
 
@@ -36,9 +36,9 @@ invariant_of-self g c =
     let k = enters ps _ _ _ _ c.self.invariant.0 i x at c.args.pass free in
     let os : List (Option Piece) = set b.slots.items i (Some x) in
     let es : List Entry = b.journal.items ++ entry c.args.pass i ∷ [] in (
-      subst (λ (ws : List ℕ). IsKept ps os c.push_reserved.new.self.items c.add.new.self.lanes ws) (sym c.add-2.ensures.sum)
-          (subst (λ (rs : List ℕ). IsKept ps os c.push_reserved.new.self.items rs (add_lanes b.writes.lanes x.writes.lanes)) (sym c.add.ensures.sum)
-          (subst (λ (js : List Entry). IsKept ps os js (add_lanes b.reads.lanes x.reads.lanes) (add_lanes b.writes.lanes x.writes.lanes)) (sym c.push_reserved.ensures.items) k)),
+      subst (λ (ws : List ℕ). RepresentsBook ps os c.push_reserved.new.self.items c.add.new.self.lanes ws) (sym c.add-2.ensures.sum)
+          (subst (λ (rs : List ℕ). RepresentsBook ps os c.push_reserved.new.self.items rs (add_lanes b.writes.lanes x.writes.lanes)) (sym c.add.ensures.sum)
+          (subst (λ (js : List Entry). RepresentsBook ps os js (add_lanes b.reads.lanes x.reads.lanes) (add_lanes b.writes.lanes x.writes.lanes)) (sym c.push_reserved.ensures.items) k)),
       search rules,
       c.self.invariant.2,
     )

@@ -4,7 +4,7 @@ use Rattle.std.proofs.lemmas.List.FromFn.{length-map-range_with_len}
 use Rattle.rv_book.specs.declared.entry.Entry.{Entry}
 use Rattle.rv_book.specs.declared.task.Piece.{Piece}
 use Rattle.rv_book.specs.Journal.{pieces_of, zeros}
-use Rattle.rv_book.specs.Book.{IsKept}
+use Rattle.rv_book.specs.Book.{RepresentsBook}
 use Rattle.rv_book.proofs.Entering.{begins}
 use Rattle.rv_book.proofs.book.Book.open.Goals as goal
 
@@ -14,11 +14,11 @@ invariant_of-result g c =
     let long = length-map-range_with_len (g.T.Task.piece c.args.task.now) 0 c.args.n in
     let slots : c.in_ok-slots.slots.items ≡ replicate c.args.n None = search rules in
     let entries : c.in-Ok.journal.items ≡ [] = search rules in (
-      subst (λ (os : List (Option Piece)). IsKept ps os c.in-Ok.journal.items c.zero.result.lanes c.zero-2.result.lanes) (sym slots)
-          (subst (λ (es : List Entry). IsKept ps (replicate c.args.n None) es c.zero.result.lanes c.zero-2.result.lanes) (sym entries)
-          (subst (λ (rs : List ℕ). IsKept ps (replicate c.args.n None) [] rs c.zero-2.result.lanes) (sym c.zero.ensures.zeros)
-          (subst (λ (ws : List ℕ). IsKept ps (replicate c.args.n None) [] zeros ws) (sym c.zero-2.ensures.zeros)
-          (subst (λ (k : ℕ). IsKept ps (replicate k None) [] zeros zeros) long (begins ps))))),
+      subst (λ (os : List (Option Piece)). RepresentsBook ps os c.in-Ok.journal.items c.zero.result.lanes c.zero-2.result.lanes) (sym slots)
+          (subst (λ (es : List Entry). RepresentsBook ps (replicate c.args.n None) es c.zero.result.lanes c.zero-2.result.lanes) (sym entries)
+          (subst (λ (rs : List ℕ). RepresentsBook ps (replicate c.args.n None) [] rs c.zero-2.result.lanes) (sym c.zero.ensures.zeros)
+          (subst (λ (ws : List ℕ). RepresentsBook ps (replicate c.args.n None) [] zeros ws) (sym c.zero-2.ensures.zeros)
+          (subst (λ (k : ℕ). RepresentsBook ps (replicate k None) [] zeros zeros) long (begins ps))))),
       search rules,
       c.requires.shards.1,
     )

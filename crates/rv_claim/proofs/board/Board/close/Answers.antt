@@ -5,7 +5,7 @@ use lib.ListN.{get_elem?}
 use Rattle.rv_book.specs.declared.task.Piece.{Piece}
 use Rattle.rv_book.specs.Journal.{BookState, pieces_of, indices}
 use Rattle.rv_book.proofs.Lemmas.{piece_below, whole}
-use Rattle.rv_claim.specs.declared.view.Kept.{Kept}
+use Rattle.rv_claim.specs.declared.view.Deposit.{Deposit}
 use Rattle.rv_claim.specs.Passes.{deposited_of}
 use Rattle.rv_claim.specs.Closing.{depositor, slot_by, closing}
 use Rattle.rv_claim.proofs.Closes.{taken_piece, taken_none, still_full, now_empty, book_more, book_same, indices-closing}
@@ -26,9 +26,9 @@ deposit-requires-after_bounds g c κs within =
     let inv = c.loop-i.invariant in
     let lt : i < n = c.loop-i-test.true in
     let slot = c.end_table-closed.ensures.slots i lt ∙ ap (λ t. some (slot_by (g.T.Task.piece t) (depositor i (map deposited_of c.args.passes.items) 0) i)) c.requires.task in
-    let k : Kept = c.in-Some.field-0 in
+    let k : Deposit = c.in-Some.field-0 in
     let t = taken_piece piece _ i k c.take.result c.in-Some.is (some-injective _ _ (sym c.take.ensures.value ∙ ap (λ xs. get_elem? xs i) inv.0 ∙ slot)) in
-    let is : k.piece ≡ piece i = ap (λ (m : Kept). m.piece) t.2 in
+    let is : k.piece ≡ piece i = ap (λ (m : Deposit). m.piece) t.2 in
     ap (λ (s : BookState). slice_get s.pieces k.piece.index) inv.4 ∙ ap (λ (y : Piece). slice_get (pieces_of piece n) y.index) is
     ∙ ap (slice_get (pieces_of piece n)) ((g.met.T.Task g.world.𝓛 g.world.𝓜 g.world.𝓡 ((λ s x. x), (λ x. x), (λ x. x), λ x. x)).numbered c.args.task.now i (omega (arith, lt, c.requires.bound))) ∙ piece_below piece n i lt ∙ ap Some (sym is)
 
@@ -49,11 +49,11 @@ loop-i-preserved g c =
       (λ k at. ap (λ fs. slice_index_or fs k false) others.1 ∙ now_empty (slots_filled c.loop-i.closed.slots) i k (omega (arith, lt, inv.1, c.loop-i.closed.slots.ok.1)) at (inv.3 k)),
       elim c.match-take.branch [
         | in-Some u ↦
-            let k : Kept = u.in-Some.field-0 in
+            let k : Deposit = u.in-Some.field-0 in
             let t = taken_piece piece _ i k c.take.result u.in-Some.is taken in
-            let is : k.piece ≡ piece i = ap (λ (m : Kept). m.piece) t.2 in
+            let is : k.piece ≡ piece i = ap (λ (m : Deposit). m.piece) t.2 in
             let index : k.piece.index ≡ i = ap (λ (y : Piece). y.index) is ∙ (g.met.T.Task g.world.𝓛 g.world.𝓜 g.world.𝓡 ((λ s x. x), (λ x. x), (λ x. x), λ x. x)).numbered c.args.task.now i (omega (arith, lt, c.requires.bound)) in
-            u.book-is ∙ book_more piece n ds i t.0 k.pass k.piece.index c.loop-i.book _ _ inv.4 u.deposit.ensures (ap (λ (m : Kept). m.pass) t.2) index t.1
+            u.book-is ∙ book_more piece n ds i t.0 k.pass k.piece.index c.loop-i.book _ _ inv.4 u.deposit.ensures (ap (λ (m : Deposit). m.pass) t.2) index t.1
         | in_default u ↦ u.book-is ∙ book_same piece n ds i c.loop-i.book inv.4 (taken_none piece _ i c.take.result u.in_default.is taken)
       ],
     )

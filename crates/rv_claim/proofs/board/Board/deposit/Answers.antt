@@ -1,7 +1,7 @@
 use Rattle.std.proofs.Common.{rules, ◌≡◌, [], ◌∷◌, ℕ, ◌+◌, ◌-◌, sym, refl, ap, ◌∙◌, arith}
 use Rattle.std.specs.Prelude.{Some}
 use Rattle.rv_book.specs.declared.task.Piece.{Piece}
-use Rattle.rv_claim.specs.declared.view.Kept.{Kept}
+use Rattle.rv_claim.specs.declared.view.Deposit.{Deposit}
 use Rattle.rv_claim.specs.declared.view.Lists.{Lists}
 use Rattle.rv_claim.specs.Views.{opens, kept, pass_view}
 use Rattle.rv_claim.proofs.Steps.{Seat, in_times}
@@ -26,11 +26,11 @@ fetch_add-requires-2 g c =
     let l : Lists = p.seat.me.0.own in
     let piece : ℕ → Piece = g.T.Task.piece b.table.shared.key.2.value in
     let x : Piece = c.args.piece in
-    let k : Kept = record { pass = p.number; piece = x } in
+    let k : Deposit = record { pass = p.number; piece = x } in
     let task : x ≡ piece i = c.requires.piece in
     let same : k ≡ kept l.number (piece i) = ap (λ (n : ℕ). kept n x) (sym p.named) ∙ ap (λ (y : Piece). kept l.number y) task in
     let held_piece = held l i (i + 1 - 1) k p.seat.me c.fetch_add.new.seat.me c.exchange.new.seat.me p.sits (omega arith) c.fetch_add.ensures.2.1 c.exchange.ensures.3 in (
       search rules,
       omega (arith, b.sized.0, c.requires.index),
-      seat_fills _ _ _ _ _ _ (opens l i) i (i + 1) refl (held_piece ∙ ap (λ (y : Kept). let s : Seat = (pass_view (opens l i), (i, Some y) ∷ []) in s) same) refl (omega (arith, b.about.0, c.requires.index)),
+      seat_fills _ _ _ _ _ _ (opens l i) i (i + 1) refl (held_piece ∙ ap (λ (y : Deposit). let s : Seat = (pass_view (opens l i), (i, Some y) ∷ []) in s) same) refl (omega (arith, b.about.0, c.requires.index)),
     )
