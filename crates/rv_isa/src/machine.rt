@@ -1,18 +1,25 @@
 //! The machine of RV32IM and RV32IMA, step by step.
 
-ghost use Rattle.std.specs.Prelude.{ℕ, ◌≡◌, ◌+◌, ◌≤◌, ◌++◌, take, List, Some, None, Ok, OnOk, OnErr, IfOk, IfErr};
+ghost use Rattle.std.specs.Prelude.{ℕ, ◌≡◌, ◌+◌, ◌≤◌, ◌++◌, length, take, List, Some, None, Ok, OnOk, OnErr, IfOk, IfErr};
 ghost use Rattle.std.specs.Int.{w32, to_le_bytes, IsInRange};
 ghost use Rattle.rv_base.specs.declared.record.End.{End as EndOf};
 ghost use Rattle.rv_spec.specs.Step as spec;
 ghost use Rattle.rv_spec.specs.Step.{State};
 ghost use Rattle.rv_spec.specs.Run.{GoesOn};
-ghost use Rattle.rv_isa.specs.Cells.{cell_value, after_touches, ArePlaced, AreUnchanged};
+ghost use Rattle.rv_spec.specs.Visits.{step_uses};
+ghost use Rattle.rv_rules.specs.Agreement.{IsState};
+ghost use Rattle.rv_rules.specs.Expected as isa;
+ghost use Rattle.rv_isa.specs.Cells.{cell_value, after_touches, ArePlaced, AreUnchanged, CellsRepresent};
+ghost use Rattle.rv_isa.specs.Represented.{RepresentsExpected};
+ghost use Rattle.rv_isa.specs.Sees.{Sees};
 ghost use Rattle.rv_isa.specs.Machine.{IsFresh, IsRunOf, Represents, TakesStep};
 
 use crate::cells::Cells;
-use crate::expected::{Expected, expect};
+use crate::decoded::Decoded;
+use crate::expected::{Expected, expect_decoded};
+use crate::step::Step;
 use rv_base::limits::BUDGET_LIMIT;
-use rv_base::{Bytes, End, NoMemory};
+use rv_base::{Bytes, End, NoMemory, Seen};
 use rv_elf::Image;
 use std::alloc::Global;
 use std::marker::Model;
@@ -92,19 +99,13 @@ impl<'a> Machine<'a> {
         if let Some(end) = self.ended {
             return Ok(Turn::Ends(end));
         }
-        let seen = self.cells.see(self.pc);
-        let step = expect(
-            self.cells.image.version(),
-            self.pc,
-            &seen,
-            self.input,
-            self.position,
-        );
+        let found = find(&self.cells, self.pc, self.input, self.position);
+        let step = &found.step;
         if let Some(end) = step.end {
             self.ended = Some(end);
             return Ok(Turn::Ends(end));
         }
-        carry_out(&mut self.cells, &mut self.output, &step, seen.s6)?;
+        carry_out(&mut self.cells, &mut self.output, step, found.seen.s6)?;
         self.pc = step.next;
         self.position += step.took as u64;
         Ok(Turn::Next)
@@ -141,6 +142,26 @@ impl<'a> Machine<'a> {
     }
 }
 
+/// What a machine finds before a step: the old values in its slots, and the step that they give.
+#[derive(Drop)]
+struct Found {
+    seen: Seen,
+    step: Expected,
+}
+
+/// The step at `pc` and a position of the input. Its word is decoded once.
+fn find(cells: &Cells<'_>, pc: u32, input: &[u8], at: u64) -> Found
+    requires { at ≤ length input.now }
+    ensures sees { (s : State) → IsState s → CellsRepresent cells.now s → s.version ≡ cells.now.image.version → s.pc ≡ pc → Sees result.seen s (step_uses input.now s) }
+    ensures gives { RepresentsExpected (isa.expected cells.now.image.version pc result.seen input.now at) result.step }
+{
+    let word = cells.fetch(pc);
+    let decoded = Decoded::of_word(cells.image.version(), word);
+    let seen = cells.see(word, decoded);
+    let step = expect_decoded(Step::at(pc, &seen, input, at), decoded);
+    Found { seen, step }
+}
+
 /// Does the accesses of a step that finds `word` in memory and appends the bytes that it puts, or does neither.
 fn carry_out(
     cells: &mut Cells<'_>,
@@ -157,15 +178,10 @@ fn carry_out(
 {
     let length = output.len();
     let bytes = step.word.to_le_bytes();
-    if output
-        .extend_from_slice(&bytes[..step.put as usize])
-        .is_err()
-    {
-        return Err(NoMemory);
-    }
-    if cells.apply(step.touches.as_slice(), word).is_err() {
+    output.extend_from_slice(&bytes[..step.put as usize])?;
+    let applied = cells.apply(step.touches.as_slice(), word);
+    if applied.is_err() {
         output.truncate(length);
-        return Err(NoMemory);
     }
-    Ok(())
+    applied
 }
