@@ -1,6 +1,6 @@
 //! The accesses of a step, in the order of their slots.
 
-ghost use Rattle.std.specs.Prelude.{◌≡◌, ◌+◌, ◌++◌, ◌<◌, ◌≤◌};
+ghost use Rattle.std.specs.Prelude.{[], ◌≡◌, ◌+◌, ◌++◌, ◌<◌, ◌≤◌};
 ghost use Rattle.arrayvec.specs.ArrayVec.{array_vec_len};
 ghost use Rattle.rv_rules.specs.Expected as isa;
 
@@ -16,6 +16,14 @@ pub(crate) struct Touches {
 }
 
 impl Touches {
+    pub fn new() -> Touches
+        ensures { result.list.items ≡ [] }
+    {
+        Touches {
+            list: ArrayVec::new(),
+        }
+    }
+
     pub fn touch(&mut self, slot: u8, cell: u32, new: u32)
         requires { array_vec_len self.old.list < 8 }
         ensures items { self.new.list.items ≡ self.old.list.items ++ isa.touch slot cell new }

@@ -16,6 +16,7 @@ ghost use Rattle.rv_isa.specs.Sees.{Sees};
 use crate::abi::{A1, A2, SP};
 use crate::accesses::operand;
 use crate::decoded::Decoded;
+use crate::expected::Found;
 use crate::operands::{Address, Operands};
 use crate::step::offset;
 use rv_base::cells::{
@@ -60,8 +61,19 @@ impl<'a> Cells<'a> {
         }
     }
 
+    /// What the step at `pc` finds. Its word is decoded once.
+    pub fn find(&self, pc: u32) -> Found
+        ensures decoded { any_of result.decoded ≡ decode_any self.now.image.version result.seen.s1 }
+        ensures sees { (input : List ℕ) (s : State) → IsState s → CellsRepresent self.now s → s.version ≡ self.now.image.version → s.pc ≡ pc → Sees result.seen s (step_uses input s) }
+    {
+        let word = self.fetch(pc);
+        let decoded = Decoded::of_word(self.image.version(), word);
+        let seen = self.see(word, decoded);
+        Found { seen, decoded }
+    }
+
     /// The word of the instruction at an address.
-    pub fn fetch(&self, pc: u32) -> u32
+    fn fetch(&self, pc: u32) -> u32
         ensures { (s : State) → IsState s → CellsRepresent self.now s → s.pc ≡ pc → result ≡ fetch_word s }
     {
         self.get(pc / 4)
@@ -69,7 +81,7 @@ impl<'a> Cells<'a> {
 
     /// The old values that the step of a fetched word finds in its slots. A slot that it doesn't use may
     /// have any value.
-    pub fn see(&self, word: u32, decoded: Decoded) -> Seen
+    fn see(&self, word: u32, decoded: Decoded) -> Seen
         ensures word { result.s1 ≡ word }
         ensures sees { (input : List ℕ) (s : State) → IsState s → CellsRepresent self.now s → word ≡ fetch_word s → any_of decoded ≡ decode_any s.version word → Sees result s (step_uses input s) }
     {

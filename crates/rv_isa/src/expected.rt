@@ -7,6 +7,7 @@ ghost use Rattle.rv_rules.specs.Expected as isa;
 ghost use Rattle.rv_isa.specs.Decoded.{any_of};
 ghost use Rattle.rv_isa.specs.Represented.{RepresentsExpected, AppendsExpected};
 
+use crate::accesses::Touches;
 use crate::atomic::atomic;
 use crate::decoded::Decoded;
 use crate::instructions::instruction;
@@ -39,16 +40,34 @@ pub fn expect(version: u8, pc: u32, seen: &Seen, input: &[u8], at: u64) -> Expec
     ensures { RepresentsExpected (isa.expected version pc seen.now input.now at) result }
 {
     let decoded = Decoded::of_word(version, seen.s1);
-    expect_decoded(Step::at(pc, seen, input, at), decoded)
+    let found = Found {
+        seen: *seen,
+        decoded,
+    };
+    expect_found(&found, pc, input, at)
 }
 
-/// The step that has made its fetch, whose word is decoded.
-pub(crate) fn expect_decoded(mut step: Step<'_>, decoded: Decoded) -> Expected
-    requires fetched { step.touches.list.items ≡ isa.touch FETCH_SLOT (step.pc / 4) step.seen.now.s1 }
-    requires within { step.at ≤ length step.input.now }
-    ensures { (version : ℕ) → any_of decoded ≡ decode_any version step.entry.seen.now.s1 → RepresentsExpected (isa.expected version step.entry.pc step.entry.seen.now step.entry.input.now step.entry.at) result }
+/// What a step finds: the old value in each slot, and what the word in slot 1 is.
+#[derive(Clone, Copy, Debug)]
+pub(crate) struct Found {
+    pub seen: Seen,
+    pub decoded: Decoded,
+}
+
+/// The step whose word is decoded already.
+pub(crate) fn expect_found<'a>(found: &'a Found, pc: u32, input: &'a [u8], at: u64) -> Expected
+    requires { at ≤ length input.now }
+    ensures { (version : ℕ) → any_of found.now.decoded ≡ decode_any version found.now.seen.s1 → RepresentsExpected (isa.expected version pc found.now.seen input.now at) result }
 {
-    let outcome = after_fetch(&mut step, decoded);
+    let mut step = Step {
+        pc,
+        seen: &found.seen,
+        input,
+        at,
+        touches: Touches::new(),
+    };
+    step.touches.touch(FETCH_SLOT, pc / 4, found.seen.s1);
+    let outcome = after_fetch(&mut step, found.decoded);
     Expected {
         touches: step.touches.list,
         next: outcome.next,

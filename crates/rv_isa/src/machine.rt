@@ -1,25 +1,18 @@
 //! The machine of RV32IM and RV32IMA, step by step.
 
-ghost use Rattle.std.specs.Prelude.{ℕ, ◌≡◌, ◌+◌, ◌≤◌, ◌++◌, length, take, List, Some, None, Ok, OnOk, OnErr, IfOk, IfErr};
+ghost use Rattle.std.specs.Prelude.{ℕ, ◌≡◌, ◌+◌, ◌≤◌, ◌++◌, take, List, Some, None, Ok, OnOk, OnErr, IfOk, IfErr};
 ghost use Rattle.std.specs.Int.{w32, to_le_bytes, IsInRange};
 ghost use Rattle.rv_base.specs.declared.record.End.{End as EndOf};
 ghost use Rattle.rv_spec.specs.Step as spec;
 ghost use Rattle.rv_spec.specs.Step.{State};
 ghost use Rattle.rv_spec.specs.Run.{GoesOn};
-ghost use Rattle.rv_spec.specs.Visits.{step_uses};
-ghost use Rattle.rv_rules.specs.Agreement.{IsState};
-ghost use Rattle.rv_rules.specs.Expected as isa;
-ghost use Rattle.rv_isa.specs.Cells.{cell_value, after_touches, ArePlaced, AreUnchanged, CellsRepresent};
-ghost use Rattle.rv_isa.specs.Represented.{RepresentsExpected};
-ghost use Rattle.rv_isa.specs.Sees.{Sees};
+ghost use Rattle.rv_isa.specs.Cells.{cell_value, after_touches, ArePlaced, AreUnchanged};
 ghost use Rattle.rv_isa.specs.Machine.{IsFresh, IsRunOf, Represents, TakesStep};
 
 use crate::cells::Cells;
-use crate::decoded::Decoded;
-use crate::expected::{Expected, expect_decoded};
-use crate::step::Step;
+use crate::expected::{Expected, expect_found};
 use rv_base::limits::BUDGET_LIMIT;
-use rv_base::{Bytes, End, NoMemory, Seen};
+use rv_base::{Bytes, End, NoMemory};
 use rv_elf::Image;
 use std::alloc::Global;
 use std::marker::Model;
@@ -99,13 +92,13 @@ impl<'a> Machine<'a> {
         if let Some(end) = self.ended {
             return Ok(Turn::Ends(end));
         }
-        let found = find(&self.cells, self.pc, self.input, self.position);
-        let step = &found.step;
+        let found = self.cells.find(self.pc);
+        let step = expect_found(&found, self.pc, self.input, self.position);
         if let Some(end) = step.end {
             self.ended = Some(end);
             return Ok(Turn::Ends(end));
         }
-        carry_out(&mut self.cells, &mut self.output, step, found.seen.s6)?;
+        carry_out(&mut self.cells, &mut self.output, &step, found.seen.s6)?;
         self.pc = step.next;
         self.position += step.took as u64;
         Ok(Turn::Next)
@@ -140,26 +133,6 @@ impl<'a> Machine<'a> {
             output: Bytes::of(self.output),
         }
     }
-}
-
-/// What a machine finds before a step: the old values in its slots, and the step that they give.
-#[derive(Drop)]
-struct Found {
-    seen: Seen,
-    step: Expected,
-}
-
-/// The step at `pc` and a position of the input. Its word is decoded once.
-fn find(cells: &Cells<'_>, pc: u32, input: &[u8], at: u64) -> Found
-    requires { at ≤ length input.now }
-    ensures sees { (s : State) → IsState s → CellsRepresent cells.now s → s.version ≡ cells.now.image.version → s.pc ≡ pc → Sees result.seen s (step_uses input.now s) }
-    ensures gives { RepresentsExpected (isa.expected cells.now.image.version pc result.seen input.now at) result.step }
-{
-    let word = cells.fetch(pc);
-    let decoded = Decoded::of_word(cells.image.version(), word);
-    let seen = cells.see(word, decoded);
-    let step = expect_decoded(Step::at(pc, &seen, input, at), decoded);
-    Found { seen, step }
 }
 
 /// Does the accesses of a step that finds `word` in memory and appends the bytes that it puts, or does neither.

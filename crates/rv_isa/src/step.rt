@@ -1,14 +1,13 @@
 //! A step in the making.
 
-ghost use Rattle.std.specs.Prelude.{[], ◌%◌, ◌^◌, ◌+◌, ◌/◌, ◌++◌, ◌<◌, ◌≤◌, ◌≡◌, ℕ, length};
+ghost use Rattle.std.specs.Prelude.{[], ◌%◌, ◌^◌, ◌+◌, ◌++◌, ◌<◌, ◌≤◌, ◌≡◌, ℕ, length};
 ghost use Rattle.arrayvec.specs.ArrayVec.{array_vec_len};
 ghost use Rattle.rv_rules.specs.Expected as isa;
 ghost use Rattle.rv_spec.specs.Words.{plus};
 ghost use Rattle.rv_isa.specs.Represented.{AppendsExpected};
 
 use crate::accesses::{Touches, operand};
-use arrayvec::ArrayVec;
-use rv_base::cells::{FETCH_SLOT, RD_SLOT};
+use rv_base::cells::RD_SLOT;
 use rv_base::machine::MISALIGNED_JUMP;
 use rv_base::{End, Seen};
 
@@ -48,28 +47,7 @@ impl Outcome {
     }
 }
 
-impl<'a> Step<'a> {
-    /// A step that has made its fetch.
-    pub fn at(pc: u32, seen: &'a Seen, input: &'a [u8], at: u64) -> Step<'a>
-        ensures pc { result.pc ≡ pc }
-        ensures seen { result.seen.now ≡ seen.now }
-        ensures input { result.input.now ≡ input.now }
-        ensures at { result.at ≡ at }
-        ensures fetched { result.touches.list.items ≡ isa.touch FETCH_SLOT (result.pc / 4) result.seen.now.s1 }
-    {
-        let mut touches = Touches {
-            list: ArrayVec::new(),
-        };
-        touches.touch(FETCH_SLOT, pc / 4, seen.s1);
-        Step {
-            pc,
-            seen,
-            input,
-            at,
-            touches,
-        }
-    }
-
+impl Step<'_> {
     /// The address of the instruction after this one.
     pub fn pc_plus_4(&self) -> u32
         ensures { result ≡ isa.pc_plus_4 self.now.pc }
