@@ -17,7 +17,8 @@ pub(crate) struct Touches {
 
 impl Touches {
     pub fn new() -> Touches
-        ensures { result.list.items ≡ [] }
+        ensures items { result.list.items ≡ [] }
+        ensures length { array_vec_len result.list ≡ 0 }
     {
         Touches {
             list: ArrayVec::new(),

@@ -33,18 +33,29 @@ pub struct Expected {
 /// The step at `pc` and a position of the input, in a version of the machine: 1 for RV32IM, 2 for
 /// RV32IMA (RISC-V Unprivileged ISA). `seen` has the old value in each slot, with the instruction
 /// word in slot 1. It knows nothing else of registers and memory.
-pub fn expect(version: u8, pc: u32, seen: &Seen, input: &[u8], at: u64) -> Expected
+pub fn expect<'a>(version: u8, pc: u32, seen: &'a Seen, input: &'a [u8], at: u64) -> Expected
     requires version { (version ≡ 1) ⊎ (version ≡ 2) }
     requires aligned { pc % 4 ≡ 0 }
     requires within { at ≤ length input.now }
     ensures { RepresentsExpected (isa.expected version pc seen.now input.now at) result }
 {
     let decoded = Decoded::of_word(version, seen.s1);
-    let found = Found {
-        seen: *seen,
-        decoded,
+    let mut step = Step {
+        pc,
+        seen,
+        input,
+        at,
+        touches: Touches::new(),
     };
-    expect_found(&found, pc, input, at)
+    let outcome = make(&mut step, decoded);
+    Expected {
+        touches: step.touches.list,
+        next: outcome.next,
+        end: outcome.end,
+        took: outcome.took,
+        put: outcome.put,
+        word: outcome.word,
+    }
 }
 
 /// What a step finds: the old value in each slot, and what the word in slot 1 is.
@@ -54,28 +65,14 @@ pub(crate) struct Found {
     pub decoded: Decoded,
 }
 
-/// The step whose word is decoded already.
-pub(crate) fn expect_found<'a>(found: &'a Found, pc: u32, input: &'a [u8], at: u64) -> Expected
-    requires { at ≤ length input.now }
-    ensures { (version : ℕ) → any_of found.now.decoded ≡ decode_any version found.now.seen.s1 → RepresentsExpected (isa.expected version pc found.now.seen input.now at) result }
+/// Makes a step that has no access yet, whose word is decoded.
+pub(crate) fn make(step: &mut Step<'_>, decoded: Decoded) -> Outcome
+    requires begins { array_vec_len step.old.touches.list ≡ 0 }
+    requires within { step.old.at ≤ length step.old.input.now }
+    ensures { (version : ℕ) → any_of decoded ≡ decode_any version step.old.seen.now.s1 → AppendsExpected (isa.expected version step.old.pc step.old.seen.now step.old.input.now step.old.at) step.old.touches.list.items step.new.touches.list.items result }
 {
-    let mut step = Step {
-        pc,
-        seen: &found.seen,
-        input,
-        at,
-        touches: Touches::new(),
-    };
-    step.touches.touch(FETCH_SLOT, pc / 4, found.seen.s1);
-    let outcome = after_fetch(&mut step, found.decoded);
-    Expected {
-        touches: step.touches.list,
-        next: outcome.next,
-        end: outcome.end,
-        took: outcome.took,
-        put: outcome.put,
-        word: outcome.word,
-    }
+    step.touches.touch(FETCH_SLOT, step.pc / 4, step.seen.s1);
+    after_fetch(step, decoded)
 }
 
 /// The step of a decoded word.

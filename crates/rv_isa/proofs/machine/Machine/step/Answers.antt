@@ -4,11 +4,11 @@ use Rattle.rv_isa.specs.declared.machine.Turn.TheVariants.{Next, Ends}
 use Rattle.rv_isa.specs.MachineState.{MachineState}
 use Rattle.rv_isa.specs.MachineView.{machine_view}
 use Rattle.rv_isa.specs.Machine.{Represents, TakesStep}
-use Rattle.rv_isa.proofs.MachineLaws.{position-within, stops, goes-on, all-placed, took-within, next-sound, same-sound}
+use Rattle.rv_isa.proofs.MachineLaws.{given, position-within, stops, goes-on, all-placed, took-within, next-sound, same-sound}
 use Rattle.rv_isa.proofs.machine.Machine.step.Goals as goal
 
-pub expect_found-step-requires : goal.expect_found-step-requires
-expect_found-step-requires c = position-within (machine_view c.self.inside) c.self.invariant
+pub make-outcome-requires-clause-within : goal.make-outcome-requires-clause-within
+make-outcome-requires-clause-within c = position-within (machine_view c.self.inside) c.self.invariant
 
 pub invariant_of-self : goal.invariant_of-self
 invariant_of-self c = same-sound (machine_view c.self.inside) _ c.self.invariant _ refl
@@ -17,20 +17,22 @@ pub returns-in-Some-end-clause-ok : goal.returns-in-Some-end-clause-ok
 returns-in-Some-end-clause-ok c s shows none =
     let m : MachineState = machine_view c.self.inside in
     let v = c.find-found.result.seen in
-    let g = c.expect_found-step.result in
-    let gives = c.expect_found-step.ensures m.image.version c.find-found.ensures.decoded in
+    let ts = c.make-outcome.new.step.touches.list.items in
+    let g = c.make-outcome.result in
+    let gives = given m v ts g _ c.new.ensures.items (c.make-outcome.ensures m.image.version c.find-found.ensures.decoded) in
     let here : Represents m s = subst (λ (k : MachineState). Represents k s) (sym c.self.view_is) shows in
     let sees = c.find-found.ensures.sees m.input s here.ranges here.cells (sym here.version) (sym here.pc) in
     subst (λ (k : MachineState). TakesStep (step k.input s) s (Ends c.in-Some-end.end) (record m { ended = Some c.in-Some-end.end })) c.self.view_is
-    (stops m v g gives c.self.invariant.bytes s here sees c.in-Some-end.end c.in-Some-end.is (record m { ended = Some c.in-Some-end.end }) refl)
+    (stops m v ts g gives c.self.invariant.bytes s here sees c.in-Some-end.end c.in-Some-end.is (record m { ended = Some c.in-Some-end.end }) refl)
 
 pub carry_out-requires-clause-places : goal.carry_out-requires-clause-places
 carry_out-requires-clause-places c =
     let m : MachineState = machine_view c.self.inside in
     let v = c.find-found.result.seen in
-    let g = c.expect_found-step.result in
-    let gives = c.expect_found-step.ensures m.image.version c.find-found.ensures.decoded in
-    all-placed m v g gives c.self.invariant.bytes c.self.invariant (λ s h. c.find-found.ensures.sees m.input s h.ranges h.cells (sym h.version) (sym h.pc))
+    let ts = c.make-outcome.new.step.touches.list.items in
+    let g = c.make-outcome.result in
+    let gives = given m v ts g _ c.new.ensures.items (c.make-outcome.ensures m.image.version c.find-found.ensures.decoded) in
+    all-placed m v ts g gives c.self.invariant.bytes c.self.invariant (λ s h. c.find-found.ensures.sees m.input s h.ranges h.cells (sym h.version) (sym h.pc))
 
 pub invariant_of-self-in_err-carry_out : goal.invariant_of-self-in_err-carry_out
 invariant_of-self-in_err-carry_out c =
@@ -42,18 +44,20 @@ pub overflow_add-self : goal.overflow_add-self
 overflow_add-self c =
     let m : MachineState = machine_view c.self.inside in
     let v = c.find-found.result.seen in
-    let g = c.expect_found-step.result in
-    let gives = c.expect_found-step.ensures m.image.version c.find-found.ensures.decoded in
-    let within : m.position + g.took ≤ length m.input = took-within m v g gives c.self.invariant.bytes c.self.invariant (λ s h. c.find-found.ensures.sees m.input s h.ranges h.cells (sym h.version) (sym h.pc)) in
+    let ts = c.make-outcome.new.step.touches.list.items in
+    let g = c.make-outcome.result in
+    let gives = given m v ts g _ c.new.ensures.items (c.make-outcome.ensures m.image.version c.find-found.ensures.decoded) in
+    let within : m.position + g.took ≤ length m.input = took-within m v ts g gives c.self.invariant.bytes c.self.invariant (λ s h. c.find-found.ensures.sees m.input s h.ranges h.cells (sym h.version) (sym h.pc)) in
     omega arith
 
 pub invariant_of-self-2 : goal.invariant_of-self-2
 invariant_of-self-2 c =
     let m : MachineState = machine_view c.self.inside in
     let v = c.find-found.result.seen in
-    let g = c.expect_found-step.result in
-    let gives = c.expect_found-step.ensures m.image.version c.find-found.ensures.decoded in
-    next-sound m v g gives c.self.invariant.bytes c.self.invariant (λ s h. c.find-found.ensures.sees m.input s h.ranges h.cells (sym h.version) (sym h.pc)) c.in_default-end.is _
+    let ts = c.make-outcome.new.step.touches.list.items in
+    let g = c.make-outcome.result in
+    let gives = given m v ts g _ c.new.ensures.items (c.make-outcome.ensures m.image.version c.find-found.ensures.decoded) in
+    next-sound m v ts g gives c.self.invariant.bytes c.self.invariant (λ s h. c.find-found.ensures.sees m.input s h.ranges h.cells (sym h.version) (sym h.pc)) c.in_default-end.is _
     (record {
       image = c.carry_out.ensures.image;
       input = refl;
@@ -68,8 +72,9 @@ pub returns-clause-ok : goal.returns-clause-ok
 returns-clause-ok c s shows none =
     let m : MachineState = machine_view c.self.inside in
     let v = c.find-found.result.seen in
-    let g = c.expect_found-step.result in
-    let gives = c.expect_found-step.ensures m.image.version c.find-found.ensures.decoded in
+    let ts = c.make-outcome.new.step.touches.list.items in
+    let g = c.make-outcome.result in
+    let gives = given m v ts g _ c.new.ensures.items (c.make-outcome.ensures m.image.version c.find-found.ensures.decoded) in
     let here : Represents m s = subst (λ (k : MachineState). Represents k s) (sym c.self.view_is) shows in
     let sees = c.find-found.ensures.sees m.input s here.ranges here.cells (sym here.version) (sym here.pc) in
     let n : MachineState = record m {
@@ -81,7 +86,7 @@ returns-clause-ok c s shows none =
       output = c.carry_out.new.output.items;
     } in
     subst (λ (k : MachineState). TakesStep (step k.input s) s Next n) c.self.view_is
-    (goes-on m v g gives c.self.invariant.bytes s here sees c.in_default-end.is n
+    (goes-on m v ts g gives c.self.invariant.bytes s here sees c.in_default-end.is n
     (record {
       image = c.carry_out.ensures.image;
       input = refl;
