@@ -1,5 +1,5 @@
 -- Steps in parts: what is made after the reads of a step.
-use Rattle.std.proofs.Common.{◌≡◌, ℕ, ◌+◌, ◌-◌, ◌%◌, ◌^◌, ◌≤◌, Bool, true, false, cond, ◌==◌, List, [], ◌++◌, length, replicate, Some, refl, sym, ◌∙◌, ap, arith, append-nil, append_assoc, subst}
+use Rattle.std.proofs.Common.{◌≡◌, ℕ, ◌+◌, ◌-◌, ◌%◌, ◌^◌, ◌≤◌, Bool, true, false, cond, ◌==◌, List, [], ◌++◌, length, replicate, refl, sym, ◌∙◌, ap, arith, append-nil, append_assoc}
 use Rattle.rv_base.specs.declared.record.Touch.{Touch}
 use Rattle.rv_base.specs.declared.instr.LoadKind.{LoadKind}
 use Rattle.rv_base.specs.declared.instr.LoadKind.TheVariants as loads

@@ -14,7 +14,7 @@ use rv_base::{Atomic, AtomicOp};
 
 /// The expected step of an atomic instruction.
 #[tactic(auto, unfolding(rv_rules::specs::Expected::expected_atomic), using(crate::proofs::Made::made))]
-pub(crate) fn atomic(step: &mut Step<'_>, atomic: Atomic) -> Outcome
+pub(crate) fn atomic(step: &mut Step<'_, '_>, atomic: Atomic) -> Outcome
     requires { array_vec_len step.old.touches.list ≤ 1 }
     ensures { AppendsExpected (isa.expected_atomic step.old.pc atomic step.old.seen.now) step.old.touches.list.items step.new.touches.list.items result }
 {
@@ -40,7 +40,7 @@ fn misaligned_kind(op: AtomicOp) -> u8
 }
 
 /// What an aligned atomic instruction accesses after its reads. A reservation is the reserved address and 1.
-fn write(step: &mut Step<'_>, atomic: Atomic, address: u32, value: u32)
+fn write(step: &mut Step<'_, '_>, atomic: Atomic, address: u32, value: u32)
     requires room { array_vec_len step.old.touches.list ≤ 5 }
     requires aligned { address % 4 ≡ 0 }
     ensures { step.new.touches.list.items ≡ step.old.touches.list.items ++ isa.atomic_writes atomic.op atomic.rd address value step.old.seen.now }
@@ -64,7 +64,7 @@ fn write(step: &mut Step<'_>, atomic: Atomic, address: u32, value: u32)
 }
 
 /// A store-conditional stores where its word is reserved, and the reservation ends.
-fn store_conditional(step: &mut Step<'_>, rd: u8, address: u32, value: u32)
+fn store_conditional(step: &mut Step<'_, '_>, rd: u8, address: u32, value: u32)
     requires room { array_vec_len step.old.touches.list ≤ 5 }
     requires aligned { address % 4 ≡ 0 }
     ensures { step.new.touches.list.items ≡ step.old.touches.list.items ++ conditional_writes rd address value (step.old.seen.now.s8 == address + 1) }

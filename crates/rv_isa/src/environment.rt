@@ -14,7 +14,7 @@ use rv_base::machine::{BAD_DESCRIPTOR, EXIT, EXIT_CALL, EXIT_GROUP, NO_SUCH_CALL
 
 /// The expected step of a call of the environment.
 #[tactic(auto, unfolding(rv_rules::specs::Expected::expected_call), using(crate::proofs::Made::made))]
-pub(crate) fn call(step: &mut Step<'_>) -> Outcome
+pub(crate) fn call(step: &mut Step<'_, '_>) -> Outcome
     requires room { array_vec_len step.old.touches.list ≤ 1 }
     requires within { step.old.at ≤ length step.old.input.now }
     ensures { AppendsExpected (isa.expected_call step.old.input.now step.old.at step.old.pc step.old.seen.now) step.old.touches.list.items step.new.touches.list.items result }
@@ -68,7 +68,7 @@ fn from_lane(word: u32, lane: u32, count: u32) -> u32
 
 /// From standard input into the buffer.
 #[tactic(auto, using(crate::proofs::Made::made))]
-fn read(step: &mut Step<'_>) -> Outcome
+fn read(step: &mut Step<'_, '_>) -> Outcome
     requires room { array_vec_len step.old.touches.list ≤ 1 }
     requires within { step.old.at ≤ length step.old.input.now }
     ensures { AppendsExpected (isa.expected_read step.old.input.now step.old.at step.old.pc step.old.seen.now) step.old.touches.list.items step.new.touches.list.items result }
@@ -90,7 +90,7 @@ fn read(step: &mut Step<'_>) -> Outcome
 
 /// From the buffer to standard output, or to standard error, which is not kept.
 #[tactic(auto, using(crate::proofs::Made::made))]
-fn write(step: &mut Step<'_>) -> Outcome
+fn write(step: &mut Step<'_, '_>) -> Outcome
     requires { array_vec_len step.old.touches.list ≤ 1 }
     ensures { AppendsExpected (isa.expected_write step.old.pc step.old.seen.now) step.old.touches.list.items step.new.touches.list.items result }
 {

@@ -33,7 +33,7 @@ pub struct Expected {
 /// The step at `pc` and a position of the input, in a version of the machine: 1 for RV32IM, 2 for
 /// RV32IMA (RISC-V Unprivileged ISA). `seen` has the old value in each slot, with the instruction
 /// word in slot 1. It knows nothing else of registers and memory.
-pub fn expect<'a>(version: u8, pc: u32, seen: &'a Seen, input: &'a [u8], at: u64) -> Expected
+pub fn expect(version: u8, pc: u32, seen: &Seen, input: &[u8], at: u64) -> Expected
     requires version { (version ≡ 1) ⊎ (version ≡ 2) }
     requires aligned { pc % 4 ≡ 0 }
     requires within { at ≤ length input.now }
@@ -66,7 +66,7 @@ pub(crate) struct Found {
 }
 
 /// Makes a step that has no access yet, whose word is decoded.
-pub(crate) fn make(step: &mut Step<'_>, decoded: Decoded) -> Outcome
+pub(crate) fn make(step: &mut Step<'_, '_>, decoded: Decoded) -> Outcome
     requires begins { array_vec_len step.old.touches.list ≡ 0 }
     requires within { step.old.at ≤ length step.old.input.now }
     ensures { (version : ℕ) → any_of decoded ≡ decode_any version step.old.seen.now.s1 → AppendsExpected (isa.expected version step.old.pc step.old.seen.now step.old.input.now step.old.at) step.old.touches.list.items step.new.touches.list.items result }
@@ -76,7 +76,7 @@ pub(crate) fn make(step: &mut Step<'_>, decoded: Decoded) -> Outcome
 }
 
 /// The step of a decoded word.
-fn after_fetch(step: &mut Step<'_>, decoded: Decoded) -> Outcome
+fn after_fetch(step: &mut Step<'_, '_>, decoded: Decoded) -> Outcome
     requires room { array_vec_len step.old.touches.list ≤ 1 }
     requires within { step.old.at ≤ length step.old.input.now }
     ensures { AppendsExpected (isa.expected_any step.old.input.now step.old.at step.old.pc (any_of decoded) step.old.seen.now) step.old.touches.list.items step.new.touches.list.items result }

@@ -17,7 +17,7 @@ use rv_base::{Instr, LoadKind, StoreKind};
 
 /// The expected step of an instruction.
 #[tactic(auto, unfolding(rv_rules::specs::Expected::expected_instr), using(crate::proofs::Made::made))]
-pub(crate) fn instruction(step: &mut Step<'_>, instr: Instr) -> Outcome
+pub(crate) fn instruction(step: &mut Step<'_, '_>, instr: Instr) -> Outcome
     requires room { array_vec_len step.old.touches.list ≤ 1 }
     requires within { step.old.at ≤ length step.old.input.now }
     ensures { AppendsExpected (isa.expected_instr step.old.input.now step.old.at step.old.pc instr step.old.seen.now) step.old.touches.list.items step.new.touches.list.items result }
@@ -104,7 +104,7 @@ fn store_width(kind: StoreKind) -> u32
 
 /// A load from an address, after the reads.
 #[tactic(auto, using(crate::proofs::Made::lanes))]
-fn load(step: &mut Step<'_>, kind: LoadKind, rd: u8, address: u32) -> Outcome
+fn load(step: &mut Step<'_, '_>, kind: LoadKind, rd: u8, address: u32) -> Outcome
     requires { array_vec_len step.old.touches.list < 7 }
     ensures { AppendsExpected (isa.moves step.old.pc (spec.load_width kind) address MISALIGNED_LOAD [] (isa.touch MEMORY_SLOT (address / 4) step.old.seen.now.s6 ++ isa.on_register RD_SLOT rd (isa.extract kind step.old.seen.now.s6 (address % 4)))) step.old.touches.list.items step.new.touches.list.items result }
 {
@@ -118,7 +118,7 @@ fn load(step: &mut Step<'_>, kind: LoadKind, rd: u8, address: u32) -> Outcome
 
 /// A store to an address, after the reads.
 #[tactic(auto, using(crate::proofs::Made::lanes))]
-fn store(step: &mut Step<'_>, kind: StoreKind, address: u32, value: u32) -> Outcome
+fn store(step: &mut Step<'_, '_>, kind: StoreKind, address: u32, value: u32) -> Outcome
     requires { array_vec_len step.old.touches.list < 8 }
     ensures { AppendsExpected (isa.moves step.old.pc (spec.store_width kind) address MISALIGNED_STORE [] (isa.touch MEMORY_SLOT (address / 4) (isa.merge kind step.old.seen.now.s6 (address % 4) value))) step.old.touches.list.items step.new.touches.list.items result }
 {

@@ -14,10 +14,10 @@ use rv_base::{End, Seen};
 /// The instruction at `pc` with the old values in its slots, the input and the bytes of it that were
 /// read before, and the accesses so far.
 #[derive(Debug, Drop)]
-pub(crate) struct Step<'a> {
+pub(crate) struct Step<'s, 'i> {
     pub pc: u32,
-    pub seen: &'a Seen,
-    pub input: &'a [u8],
+    pub seen: &'s Seen,
+    pub input: &'i [u8],
     pub at: u64,
     pub touches: Touches,
 }
@@ -47,7 +47,7 @@ impl Outcome {
     }
 }
 
-impl Step<'_> {
+impl Step<'_, '_> {
     /// The address of the instruction after this one.
     pub fn pc_plus_4(&self) -> u32
         ensures { result ≡ isa.pc_plus_4 self.now.pc }

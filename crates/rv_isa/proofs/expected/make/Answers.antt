@@ -1,4 +1,4 @@
-use Rattle.std.proofs.Common.{◌≡◌, ◌/◌, ◌++◌, Option, ◌∙◌, ap, subst, append_assoc}
+use Rattle.std.proofs.Common.{◌/◌, ◌++◌, Option, ◌∙◌, ap, subst, append_assoc}
 use Rattle.rv_base.specs.declared.cells.TheConstants.{FETCH_SLOT}
 use Rattle.rv_spec.specs.Decode.{AnyInstr, decode_any}
 use Rattle.rv_rules.specs.Expected as isa

@@ -1,5 +1,5 @@
 -- A load and a store follow their reads, at the address that they compute.
-use Rattle.std.proofs.Common.{◌≡◌, ℕ, ◌/◌, ◌%◌, ◌++◌, sym, ◌∙◌, ap₂, subst, rules}
+use Rattle.std.proofs.Common.{◌≡◌, ℕ, ◌/◌, ◌%◌, ◌++◌, sym, ap₂, subst, rules}
 use Rattle.rv_base.specs.declared.cells.TheConstants.{MEMORY_SLOT, RD_SLOT}
 use Rattle.rv_base.specs.declared.machine.TheConstants.{MISALIGNED_LOAD, MISALIGNED_STORE}
 use Rattle.rv_base.specs.declared.instr.Instr.{Instr}

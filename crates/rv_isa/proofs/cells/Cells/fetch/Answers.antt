@@ -1,4 +1,4 @@
-use Rattle.std.proofs.Common.{◌≡◌, ◌/◌, ◌^◌, ◌<◌, sym, ◌∙◌, ap, arith}
+use Rattle.std.proofs.Common.{◌/◌, ◌^◌, ◌<◌, sym, ◌∙◌, ap, arith}
 use Rattle.rv_rules.proofs.Lemmas.{word-aligned}
 use Rattle.rv_isa.specs.Cells.{cell_value}
 use Rattle.rv_isa.proofs.Loads.{value-word}

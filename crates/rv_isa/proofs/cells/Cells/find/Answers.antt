@@ -1,4 +1,4 @@
-use Rattle.std.proofs.Common.{◌≡◌, ◌∙◌, ap, ap₂, sym}
+use Rattle.std.proofs.Common.{◌∙◌, ap, ap₂, sym}
 use Rattle.rv_spec.specs.Decode.{decode_any}
 use Rattle.rv_isa.proofs.cells.Cells.find.Goals as goal
 
