@@ -1,5 +1,5 @@
 -- The accesses of an expected step, whatever its old values are: their slots rise from 1 to 8; slots 1 to 5 leave what they find; slot 6 is a word of memory, slot 7 a register and slot 8 the reservation.
-use Rattle.std.proofs.Common.{◌≡◌, ℕ, ℤ, ◌+◌, ◌-◌, ◌/◌, ◌%◌, ◌^◌, ◌<◌, ◌≤◌, min, Bool, true, false, cond, ◌||◌, ◌==◌, List, [], ◌∷◌, ◌++◌, length, take, drop, Option, Some, None, refl, arith, mod-lt, lit<}
+use Rattle.std.proofs.Common.{◌≡◌, ℕ, ◌+◌, ◌-◌, ◌/◌, ◌%◌, ◌^◌, ◌<◌, ◌≤◌, min, Bool, true, false, cond, ◌||◌, ◌==◌, List, [], ◌∷◌, ◌++◌, length, take, drop, Option, Some, None, refl, arith}
 use Rattle.std.specs.Option.{IfSome}
 use Rattle.std.specs.Int.{w32, to_le_bytes, cast_unsigned}
 use Rattle.std.proofs.lemmas.Bool.{eqb-false}
@@ -18,6 +18,7 @@ use Rattle.rv_spec.specs.Cells.{register_cell, reservation_cell}
 use Rattle.rv_rules.specs.Expected.{touch, on_register, on_buffer, splice, merge, extract, operand, reads_one, reads_two, goes_to, ends, pc_plus_4, jumps, argument_touches, expected_return, expected_read, expected_write, expected_call, expected_instr, atomic_writes, misaligned_kind, expected_atomic, expected_any, expected}
 use Rattle.rv_isa.specs.Sees.{seen_in}
 use Rattle.rv_isa.specs.Shape.{AreShaped}
+use Rattle.rv_isa.proofs.WordRanges.{either-fits, sum-fits}
 use Rattle.rv_isa.proofs.Fields.{HasFields, HasAnyFields, any-decoded}
 
 module _ (v : Seen) where
@@ -87,9 +88,6 @@ module _ (v : Seen) where
       go : (b : Bool) → AreShaped v lo 9 (cond b (goes_to next (reads ++ writes)) (ends pc kind 0 reads)).touches
       go true = joined lo mid 9 reads writes p q
       go false = upper reads lo p
-
-  sum-fits : (a : ℕ) (z : ℤ) → plus a z < 2 ^ 32
-  sum-fits a z = mod-lt (a + cast_unsigned w32 z) (lit< tt)
 
   moved : (lo hi a rd new w : ℕ) → lo ≤ 6 → 7 < hi → a < 2 ^ 32 → rd < 32 → AreShaped v lo hi (touch 6 (a / 4) new ++ on_register 7 rd w)
   moved lo hi a rd new w h k small r = joined lo 7 hi (touch 6 (a / 4) new) (on_register 7 rd w) (of-word lo 7 a new h (omega arith) small) (written 7 hi rd w (omega arith) k r)
@@ -200,19 +198,12 @@ module _ (v : Seen) where
       (reserved 8 0 (omega arith))
   writes-shaped op rd a b small fits = moved 6 9 a rd (amo_result op v.s6 b) v.s6 (omega arith) (omega arith) fits small
 
-  operand-fits : (r x : ℕ) → x < 2 ^ 32 → operand r x < 2 ^ 32
-  operand-fits r x h = go (r == 0)
-    where
-      go : (b : Bool) → cond b 0 x < 2 ^ 32
-      go true = omega arith
-      go false = h
-
   atomic-shaped : (pc : ℕ) (i : Atomic) → i.rd < 32 → Fits → AreShaped v 2 9 (expected_atomic pc i v).touches
   unfolding expected_atomic
   atomic-shaped pc i small fits =
       let a : ℕ = operand i.rs1 v.s2 in
       let b : ℕ = operand i.rs2 v.s3 in
-      aligned 2 6 (a % 4) (pc_plus_4 pc) pc (misaligned_kind i.op) (reads_two i.rs1 i.rs2 v) (atomic_writes i.op i.rd a b v) (omega arith) (of-two i.rs1 i.rs2) (writes-shaped i.op i.rd a b small (operand-fits i.rs1 v.s2 fits.0))
+      aligned 2 6 (a % 4) (pc_plus_4 pc) pc (misaligned_kind i.op) (reads_two i.rs1 i.rs2 v) (atomic_writes i.op i.rd a b v) (omega arith) (of-two i.rs1 i.rs2) (writes-shaped i.op i.rd a b small (either-fits (i.rs1 == 0) 0 v.s2 (omega arith) fits.0))
 
   any-shaped : (input : List ℕ) (at pc : ℕ) (o : Option AnyInstr) → IfSome o HasAnyFields → Fits → AreShaped v 2 9 (expected_any input at pc o v).touches
   any-shaped input at pc None f fits = omega arith

@@ -6,14 +6,10 @@ use Rattle.std.specs.Int.{w32, cast_unsigned}
 use Rattle.rv_base.specs.declared.instr.Instr.{Instr}
 use Rattle.rv_base.specs.declared.instr.Atomic.{Atomic}
 use Rattle.rv_spec.specs.Words.{sign_extend}
-use Rattle.rv_spec.specs.Decode.{Encoding, by_table, rv32im_table, rv32a_table, decode, decode_atomic, decode_any, AnyInstr, rv32im, rv32a}
-pub use Rattle.rv_isa.specs.Fields.{HasFields, HasAtomicFields}
+use Rattle.rv_spec.specs.Decode.{Encoding, by_table, rv32im_table, rv32a_table, decode, decode_atomic, decode_any, rv32im, rv32a}
+pub use Rattle.rv_isa.specs.Fields.{HasFields, HasAtomicFields, HasAnyFields}
 use Rattle.rv_isa.proofs.WordRanges.{IsWord}
 use Rattle.rv_isa.proofs.SignedWords.{extended-fits}
-
-abbrev pub HasAnyFields : AnyInstr → Type 0
-HasAnyFields (rv32im i) = HasFields i
-HasAnyFields (rv32a i) = HasAtomicFields i
 
 five-bits : (n : ℕ) → n % 32 < 32
 five-bits n = mod-lt n (lit< tt)

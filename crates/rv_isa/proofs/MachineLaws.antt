@@ -9,6 +9,7 @@ use Rattle.std.proofs.lemmas.Bool.{cases_lt}
 use base.Stored.{Coded-set}
 use Rattle.rv_base.specs.declared.record.End.{End}
 use Rattle.rv_base.specs.declared.record.Seen.{Seen}
+use Rattle.rv_base.specs.declared.record.Touch.{Touch}
 use Rattle.rv_spec.specs.Words.{AreBytes}
 use Rattle.rv_spec.specs.Step as spec
 use Rattle.rv_spec.specs.Elf.{Image}
@@ -18,11 +19,11 @@ use Rattle.rv_spec.specs.Cells.{is_cell, value, initial_value}
 use Rattle.rv_spec.specs.Visits.{visits, step_uses}
 use Rattle.rv_rules.specs.Expected as isa
 use Rattle.rv_rules.specs.Agreement.{IsProgram, GoesAs, touch_of}
-use Rattle.rv_isa.specs.declared.expected.Expected.{Expected}
+use Rattle.rv_isa.specs.declared.step.Outcome.{Outcome}
 use Rattle.rv_isa.specs.declared.machine.Turn.{Turn}
 use Rattle.rv_isa.specs.declared.machine.Turn.TheVariants.{Next, Ends}
 use Rattle.rv_isa.specs.declared.machine.Ran.{Ran}
-use Rattle.rv_isa.specs.Represented.{RepresentsExpected}
+use Rattle.rv_isa.specs.Represented.{AppendsExpected}
 use Rattle.rv_isa.specs.Cells.{after_touches, ArePlaced}
 use Rattle.rv_isa.specs.Sees.{Sees}
 use Rattle.rv_isa.specs.MachineState.{MachineState, machine_value}
@@ -46,16 +47,21 @@ abbrev pub Finds : MachineState → Seen → Type 0
 Finds m v = (s : State) → Represents m s → Sees v s (step_uses m.input s)
 
 -- n is the machine m after the expected step
-pub record Leads (m n : MachineState) (v : Seen) (g : Expected) : Type 0 where
+pub record Leads (m n : MachineState) (v : Seen) (ts : List Touch) (g : Outcome) : Type 0 where
   pub image : n.image ≡ m.image
   pub input : n.input ≡ m.input
   pub pc : n.pc ≡ g.next
   pub position : n.position ≡ m.position + g.took
   pub output : n.output ≡ m.output ++ take g.put (to_le_bytes w32 g.word)
   pub going : n.ended ≡ None
-  pub cells : (c : ℕ) → machine_value n c ≡ after_touches g.touches.items v.s6 c (machine_value m c)
+  pub cells : (c : ℕ) → machine_value n c ≡ after_touches ts v.s6 c (machine_value m c)
 
-module _ (m : MachineState) (v : Seen) (g : Expected) (gives : RepresentsExpected (isa.expected m.image.version m.pc v m.input m.position) g) (bytes : AreBytes m.input) where
+-- the accesses of a step begin with none
+pub given : (m : MachineState) (v : Seen) (ts : List Touch) (g : Outcome) (first : List Touch) → first ≡ []
+    → AppendsExpected (isa.expected m.image.version m.pc v m.input m.position) first ts g → AppendsExpected (isa.expected m.image.version m.pc v m.input m.position) [] ts g
+given m v ts g first none = subst (λ (l : List Touch). AppendsExpected (isa.expected m.image.version m.pc v m.input m.position) l ts g) none
+
+module _ (m : MachineState) (v : Seen) (ts : List Touch) (g : Outcome) (gives : AppendsExpected (isa.expected m.image.version m.pc v m.input m.position) [] ts g) (bytes : AreBytes m.input) where
   module _ (s : State) (shows : Represents m s) (sees : Sees v s (step_uses m.input s)) where
     abbrev e : isa.Expected
     e = isa.expected s.version s.pc v m.input s.position
@@ -63,11 +69,11 @@ module _ (m : MachineState) (v : Seen) (g : Expected) (gives : RepresentsExpecte
     same : isa.expected m.image.version m.pc v m.input m.position ≡ e
     same = λ i. isa.expected (shows.version i) (shows.pc i) v m.input (shows.position i)
 
-    accesses : g.touches.items ≡ map touch_of (visits m.input s)
+    accesses : ts ≡ map touch_of (visits m.input s)
     accesses = gives.touches ∙ ap (λ x. x.touches) same ∙ (expected-follows m.input s v shows.ranges sees).0
 
-    pub placed : ArePlaced g.touches.items
-    placed = accesses-placed m.input s shows.ranges g.touches.items accesses
+    pub placed : ArePlaced ts
+    placed = accesses-placed m.input s shows.ranges ts accesses
 
     put : take g.put (to_le_bytes w32 g.word) ≡ e.put
     put =
@@ -103,7 +109,7 @@ module _ (m : MachineState) (v : Seen) (g : Expected) (gives : RepresentsExpecte
             (ap Ends this, ap (λ k. k.ended) is ∙ ap (λ k. Some k) this, subst (λ k. Represents k s) (sym is) shown)
 
     -- the run goes on
-    pub goes-on : g.end ≡ None → (n : MachineState) → Leads m n v g → TakesStep (step m.input s) s Next n
+    pub goes-on : g.end ≡ None → (n : MachineState) → Leads m n v ts g → TakesStep (step m.input s) s Next n
     goes-on going n leads = go (step m.input s) refl (expected-follows m.input s v shows.ranges sees).1 (step-stays m.input s shows.ranges bytes shows.within) (step-version m.input s)
       where
         expected_end : e.end ≡ None
@@ -119,7 +125,7 @@ module _ (m : MachineState) (v : Seen) (g : Expected) (gives : RepresentsExpecte
             pc = leads.pc ∙ gives.next ∙ ap (λ x. x.next) same ∙ goes.1;
             position = leads.position ∙ ap₂ (λ a b. a + b) shows.position (gives.took ∙ ap (λ x. x.took) same) ∙ goes.2;
             output = leads.output ∙ ap₂ (λ a b. a ++ b) shows.output put ∙ goes.3;
-            cells = λ c is_cell. leads.cells c ∙ left-is m.input s shows.ranges v g.touches.items c (machine_value m c) sees accesses (shows.cells c is_cell) ∙ ap (λ turn. value (state_after s turn) c) is;
+            cells = λ c is_cell. leads.cells c ∙ left-is m.input s shows.ranges v ts c (machine_value m c) sees accesses (shows.cells c is_cell) ∙ ap (λ turn. value (state_after s turn) c) is;
             ranges = stays.0;
             within = subst (λ l. t.position ≤ length l) (sym leads.input) stays.1;
           },
@@ -128,7 +134,7 @@ module _ (m : MachineState) (v : Seen) (g : Expected) (gives : RepresentsExpecte
   -- ---- a step from a machine
 
   module _ (sound : RepresentsSomeState m) (finds : Finds m v) where
-    pub all-placed : ArePlaced g.touches.items
+    pub all-placed : ArePlaced ts
     all-placed = record {
       word = λ w f. ∥∥₁_elim sound.stands le_prop (λ p. (placed p.0 p.1 (finds p.0 p.1)).word w f);
       register = λ w f. (∥∥₁_elim sound.stands le_prop (λ p. ((placed p.0 p.1 (finds p.0 p.1)).register w f).0), ∥∥₁_elim sound.stands le_prop (λ p. ((placed p.0 p.1 (finds p.0 p.1)).register w f).1));
@@ -139,7 +145,7 @@ module _ (m : MachineState) (v : Seen) (g : Expected) (gives : RepresentsExpecte
     took-within = ∥∥₁_elim sound.stands le_prop (λ p. within p.0 p.1 (finds p.0 p.1))
 
     -- the machine that ended is sound, and so is the next one
-    pub next-sound : g.end ≡ None → (n : MachineState) → Leads m n v g → RepresentsSomeState n
+    pub next-sound : g.end ≡ None → (n : MachineState) → Leads m n v ts g → RepresentsSomeState n
     next-sound going n leads = record {
       bytes = subst AreBytes (sym leads.input) bytes;
       stands = ∥∥₁_map sound.stands (λ p. led p.0 (step m.input p.0) (goes-on p.0 p.1 (finds p.0 p.1) going n leads));

@@ -1,5 +1,5 @@
 -- Steps in parts: what is made after the reads of a step.
-use Rattle.std.proofs.Common.{◌≡◌, ℕ, ◌+◌, ◌-◌, ◌%◌, ◌^◌, ◌≤◌, Bool, true, false, cond, ◌==◌, List, [], ◌++◌, length, replicate, Some, refl, sym, ◌∙◌, ap, arith, append-nil, append_assoc, subst}
+use Rattle.std.proofs.Common.{◌≡◌, ℕ, ◌+◌, ◌-◌, ◌%◌, ◌^◌, ◌≤◌, Bool, true, false, cond, ◌==◌, List, [], ◌++◌, length, replicate, refl, sym, ◌∙◌, ap, arith, append-nil, append_assoc}
 use Rattle.rv_base.specs.declared.record.Touch.{Touch}
 use Rattle.rv_base.specs.declared.instr.LoadKind.{LoadKind}
 use Rattle.rv_base.specs.declared.instr.LoadKind.TheVariants as loads
@@ -7,7 +7,7 @@ use Rattle.rv_base.specs.declared.instr.StoreKind.{StoreKind}
 use Rattle.rv_base.specs.declared.instr.StoreKind.TheVariants as stores
 use Rattle.rv_spec.specs.Step.{load_width, store_width}
 use Rattle.rv_rules.specs.Expected.{Expected, goes_to, ends, jumps, moves}
-use Rattle.rv_isa.specs.declared.outcome.Outcome.{Outcome}
+use Rattle.rv_isa.specs.declared.step.Outcome.{Outcome}
 use Rattle.rv_isa.specs.Represented.{AppendsExpected}
 
 after : (e f : Expected) (first middle last reads : List Touch) (o : Outcome) → f ≡ record e { touches = reads ++ e.touches } → middle ≡ first ++ reads → AppendsExpected e middle last o → AppendsExpected f first last o
@@ -57,8 +57,3 @@ store-within stores.W a e = omega arith
 pub ruleset made = (goes-after, jumps-after, moves-after)
 
 pub ruleset lanes = (load-within, store-within)
-
--- a step that ends the run, and accesses nothing more
-pub ends-made : (pc kind code : ℕ) (first : List Touch) (o : Outcome) → o ≡ record { next = pc; end = Some (record { kind = kind; code = code }); took = 0; put = 0; word = 0 } → AppendsExpected (ends pc kind code []) first first o
-ends-made pc kind code first o is =
-    subst (λ (p : Outcome). AppendsExpected (ends pc kind code []) first first p) (sym is) (record { touches = sym (append-nil first); next = refl; end = refl; took = refl; put = refl; word = refl; most = omega arith })

@@ -1,22 +1,20 @@
 -- A step uses words of memory in slot 6, and registers or the reservation in the slots around it.
-use Rattle.std.proofs.Common.{◌≡◌, ℕ, ℤ, ◌+◌, ◌-◌, ◌/◌, ◌%◌, ◌^◌, ◌<◌, ◌≤◌, min, length, ◌||◌, Bool, true, false, cond, ◌==◌, List, [], ◌∷◌, ◌++◌, Option, Some, None, option_map, refl, arith, rules, mod-lt, lit<}
+use Rattle.std.proofs.Common.{◌≡◌, ℕ, ◌+◌, ◌-◌, ◌/◌, ◌%◌, ◌^◌, ◌<◌, ◌≤◌, min, length, ◌||◌, Bool, true, false, cond, ◌==◌, List, [], ◌∷◌, ◌++◌, Option, Some, None, option_map, refl, arith, rules}
 use Rattle.std.specs.List.{AllByRecursion}
 use Rattle.std.specs.Option.{IfSome, option_or}
-use Rattle.std.specs.Int.{w32, cast_unsigned}
 use Rattle.std.proofs.lemmas.Bool.{eqb-false, eqb-true}
 use Rattle.rv_base.specs.declared.instr.Instr.{Instr}
 use Rattle.rv_base.specs.declared.instr.Instr.TheVariants.{Lui, Auipc, Jal, Jalr, Branch, Load, Store, OpImm, Op, Fence, Ecall, Ebreak}
 use Rattle.rv_base.specs.declared.instr.AtomicOp.{AtomicOp}
 use Rattle.rv_base.specs.declared.instr.AtomicOp.TheVariants as amo
 use Rattle.rv_base.specs.declared.instr.Atomic.{Atomic}
-use Rattle.rv_spec.specs.Words.{plus}
 use Rattle.rv_spec.specs.Decode.{AnyInstr, rv32im, rv32a, decode, decode_atomic, decode_any}
 use Rattle.rv_spec.specs.Step.{State, register, within_word, fetch_word}
 use Rattle.rv_spec.specs.Cells.{register_cell, reservation_cell}
 use Rattle.rv_spec.specs.Visits.{Use, use_of, use_register, use_buffer, where_aligned, argument_uses, call_uses, uses, aligned_atomic_uses, atomic_uses, instruction_uses}
 use Rattle.rv_rules.specs.Agreement.{IsState}
 use Rattle.rv_isa.proofs.Fields.{HasFields, HasAnyFields, any-decoded}
-use Rattle.rv_isa.proofs.WordRanges.{register-fits}
+use Rattle.rv_isa.proofs.WordRanges.{register-fits, sum-fits}
 
 -- the cell is a word of memory in slot 6, and else a register or the reservation, but not x0; the reservation is of version 2
 abbrev pub IsPlaced : ℕ → Use → Type 0
@@ -46,9 +44,6 @@ module _ (version : ℕ) where
 
   placed-reservation : version ≡ 2 → ArePlaced version (use_of 8 reservation_cell)
   placed-reservation two = ((omega arith, omega arith, (λ six. absurd (omega arith)), (λ other. (omega arith, omega arith)), (λ e. two)), tt)
-
-  sum-fits : (a : ℕ) (z : ℤ) → plus a z < 2 ^ 32
-  sum-fits a z = mod-lt (a + cast_unsigned w32 z) (lit< tt)
 
   ruleset placing = (placed-append, placed-cond, placed-register, placed-word, placed-reservation, sum-fits, register-fits)
 

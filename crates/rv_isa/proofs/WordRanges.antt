@@ -1,8 +1,8 @@
 -- What registers and memory hold is a word: below 2 ^ 32.
-use Rattle.std.proofs.Common.{ℕ, zero, suc, ◌+◌, ◌-◌, ◌*◌, ◌^◌, ◌<◌, Bool, true, false, cond, ◌==◌, List, [], ◌∷◌, slice_index, arith}
+use Rattle.std.proofs.Common.{ℕ, ℤ, zero, suc, ◌+◌, ◌-◌, ◌*◌, ◌^◌, ◌<◌, mod-lt, lit<, Bool, true, false, cond, ◌==◌, List, [], ◌∷◌, slice_index, arith}
 use Rattle.std.specs.List.{AllByRecursion}
-use Rattle.std.specs.Int.{w32, from_le_bytes}
-use Rattle.rv_spec.specs.Words.{Memory, byte, bytes_from, word}
+use Rattle.std.specs.Int.{w32, from_le_bytes, cast_unsigned}
+use Rattle.rv_spec.specs.Words.{Memory, byte, bytes_from, word, plus}
 use Rattle.rv_spec.specs.Step.{State, register}
 use Rattle.rv_rules.specs.Agreement.{IsState}
 
@@ -31,3 +31,7 @@ four-fit m a fits = spell (byte m a) (byte m (a + 1)) (byte m (a + 1 + 1)) (byte
 
 pub word-fits : (m : Memory) (w : ℕ) → ((x : ℕ) → byte m x < 2 ^ 8) → IsWord (word m w)
 word-fits m w fits = four-fit m (4 * w) fits
+
+-- an address at a signed distance
+pub sum-fits : (a : ℕ) (z : ℤ) → plus a z < 2 ^ 32
+sum-fits a z = mod-lt (a + cast_unsigned w32 z) (lit< tt)

@@ -1,5 +1,6 @@
 -- The cells of a machine, and what the accesses of a step leave in them.
-use Rattle.std.specs.Prelude.{◌≡◌, ℕ, ◌+◌, ◌^◌, ◌<◌, ◌≤◌, List, Option, Some, None, IsTrue, find, ◌==◌, if◌then◌else◌}
+use Rattle.std.specs.Prelude.{◌≡◌, ℕ, ◌+◌, ◌<◌, ◌≤◌, List, Option, Some, None, IsTrue, find, ◌==◌, if◌then◌else◌}
+use Rattle.rv_base.specs.declared.cells.TheConstants.{REGISTER_CELLS, RESERVATION_CELL, MEMORY_SLOT, RD_SLOT, RESERVATION_SLOT}
 use Rattle.rv_base.specs.declared.record.Touch.{Touch}
 use Rattle.rv_spec.specs.Step.{State}
 use Rattle.rv_spec.specs.Cells.{is_cell, value}
@@ -21,7 +22,7 @@ pub record AreUnchanged (m n : Cells) : Type 0 where
 
 -- the cells of registers, and of the reservation
 abbrev pub IsRegisterCell : ℕ → Type 0
-IsRegisterCell c = (2 ^ 30 ≤ c) × (c < 2 ^ 30 + 33)
+IsRegisterCell c = (REGISTER_CELLS ≤ c) × (c < RESERVATION_CELL + 1)
 
 -- the access in a slot
 abbrev pub access_in : List Touch → ℕ → Option Touch
@@ -37,12 +38,12 @@ abbrev pub after_touch : Option Touch → ℕ → ℕ → ℕ
 after_touch None c v = v
 after_touch (Some t) c v = if c == t.cell then t.new else v
 
--- the value v of a cell after the accesses in slots 6 to 8, where the one of slot 6 finds the word
+-- the value v of a cell after the accesses of a step that may write, where the one of memory finds the word
 abbrev pub after_touches : List Touch → ℕ → ℕ → ℕ → ℕ
-after_touches touches word c v = after_touch (access_in touches 8) c (after_touch (access_in touches 7) c (after_touch (if_changed word (access_in touches 6)) c v))
+after_touches touches word c v = after_touch (access_in touches RESERVATION_SLOT) c (after_touch (access_in touches RD_SLOT) c (after_touch (if_changed word (access_in touches MEMORY_SLOT)) c v))
 
--- the cell of slot 6 is a word of memory, and those of slots 7 and 8 are not
+-- memory's slot has the cell of a word of memory, and those of rd and the reservation have not
 pub record ArePlaced (touches : List Touch) : Type 0 where
-  pub word : (t : Touch) → access_in touches 6 ≡ Some t → t.cell < 2 ^ 30
-  pub register : (t : Touch) → access_in touches 7 ≡ Some t → IsRegisterCell t.cell
-  pub reservation : (t : Touch) → access_in touches 8 ≡ Some t → IsRegisterCell t.cell
+  pub word : (t : Touch) → access_in touches MEMORY_SLOT ≡ Some t → t.cell < REGISTER_CELLS
+  pub register : (t : Touch) → access_in touches RD_SLOT ≡ Some t → IsRegisterCell t.cell
+  pub reservation : (t : Touch) → access_in touches RESERVATION_SLOT ≡ Some t → IsRegisterCell t.cell

@@ -4,6 +4,7 @@ use Rattle.std.specs.Int.{w32, cast_unsigned}
 use Rattle.rv_base.specs.declared.instr.Instr.{Instr}
 use Rattle.rv_base.specs.declared.instr.Instr.TheVariants.{Lui, Auipc, Jal, Jalr, Branch, Load, Store, OpImm, Op, Fence, Ecall, Ebreak}
 use Rattle.rv_base.specs.declared.instr.Atomic.{Atomic}
+use Rattle.rv_spec.specs.Decode.{AnyInstr, rv32im, rv32a}
 
 -- the registers of an instruction are below 32, and what it computes with is a word
 abbrev pub HasFields : Instr → Type 0
@@ -22,3 +23,7 @@ HasFields Ebreak = Unit {0}
 
 abbrev pub HasAtomicFields : Atomic → Type 0
 HasAtomicFields i = (i.rd < 32) × (i.rs1 < 32) × (i.rs2 < 32)
+
+abbrev pub HasAnyFields : AnyInstr → Type 0
+HasAnyFields (rv32im i) = HasFields i
+HasAnyFields (rv32a i) = HasAtomicFields i

@@ -1,5 +1,6 @@
 pub mod Represented
 pub mod MachineState
+pub mod Decoded
 pub mod Cells
 pub mod Fields
 pub mod Operands

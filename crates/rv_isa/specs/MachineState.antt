@@ -1,8 +1,9 @@
 -- What a machine keeps between steps.
-use Rattle.std.specs.Prelude.{ℕ, ◌-◌, ◌^◌, List, Option, unwrap_or, slice_index, nat_lt, if◌then◌else◌}
+use Rattle.std.specs.Prelude.{ℕ, ◌-◌, List, Option, unwrap_or, slice_index, nat_lt, if◌then◌else◌}
 use Rattle.std.specs.Ordering.{nat_cmp}
 use Rattle.std.specs.BTreeMap.{is_at}
 use Rattle.std.specs.Map.{lookup}
+use Rattle.rv_base.specs.declared.cells.TheConstants.{REGISTER_CELLS}
 use Rattle.rv_base.specs.declared.record.End.{End}
 use Rattle.rv_spec.specs.Elf.{Image}
 use Rattle.rv_spec.specs.Cells.{initial_value}
@@ -20,7 +21,7 @@ pub record MachineState : Type 0 where
 
 -- what is kept in a cell
 unfoldable pub stored_value : Image → List (ℕ × ℕ) → List ℕ → ℕ → ℕ
-stored_value i written registers c = if nat_lt c (2 ^ 30) then unwrap_or (lookup (is_at (nat_cmp c)) written) (initial_value i c) else slice_index registers (c - 2 ^ 30)
+stored_value i written registers c = if nat_lt c REGISTER_CELLS then unwrap_or (lookup (is_at (nat_cmp c)) written) (initial_value i c) else slice_index registers (c - REGISTER_CELLS)
 
 abbrev pub machine_value : MachineState → ℕ → ℕ
 machine_value m c = stored_value m.image m.written m.registers c

@@ -1,5 +1,6 @@
 -- Where an instruction finds what it uses.
-use Rattle.std.specs.Prelude.{◌≡◌, ℕ, ◌/◌, ◌^◌, ◌<◌, Option, Some, None, ◌==◌, if◌then◌else◌}
+use Rattle.std.specs.Prelude.{◌≡◌, ℕ, ◌/◌, ◌<◌, Option, Some, None, ◌==◌, if◌then◌else◌}
+use Rattle.rv_base.specs.declared.cells.TheConstants.{REGISTER_CELLS, RS1_SLOT, RS2_SLOT, A1_SLOT, A2_SLOT, MEMORY_SLOT, RD_SLOT}
 use Rattle.rv_spec.specs.Words.{plus}
 use Rattle.rv_spec.specs.Step.{State, register}
 use Rattle.rv_spec.specs.Cells.{register_cell, reservation_cell}
@@ -9,18 +10,18 @@ use Rattle.rv_isa.specs.declared.operands.Operands.{Operands}
 
 -- the word of memory at the address, or no word's number
 abbrev pub word_at : State → Option Address → ℕ
-word_at s None = 2 ^ 30
+word_at s None = REGISTER_CELLS
 word_at s (Some a) = plus (register s a.base) a.offset / 4
 
 -- the cell of each slot after the fetch; x11 and x12 are arguments of calls
 abbrev pub cell_in : Operands → State → ℕ → ℕ
 cell_in o s slot =
-    if slot == 2 then register_cell o.rs1
-    else (if slot == 3 then register_cell o.rs2
-    else (if slot == 4 then register_cell 11
-    else (if slot == 5 then register_cell 12
-    else (if slot == 6 then word_at s o.address
-    else (if slot == 7 then register_cell o.rd else reservation_cell)))))
+    if slot == RS1_SLOT then register_cell o.rs1
+    else (if slot == RS2_SLOT then register_cell o.rs2
+    else (if slot == A1_SLOT then register_cell 11
+    else (if slot == A2_SLOT then register_cell 12
+    else (if slot == MEMORY_SLOT then word_at s o.address
+    else (if slot == RD_SLOT then register_cell o.rd else reservation_cell)))))
 
 -- the operands tell the cell of a use
 abbrev pub IsCovered : Operands → State → Use → Type 0

@@ -1,6 +1,8 @@
 -- The ranges of what the steps of a run use, take, put and end with.
 use Rattle.std.specs.Prelude.{◌≡◌, ◌⊎◌, ℕ, ◌+◌, ◌*◌, ◌<◌, ◌≤◌, ◌^◌, List, [], ◌∷◌, Some, IsTrue}
 use Rattle.std.specs.List.{AllByRecursion}
+use Rattle.rv_base.specs.declared.cells.TheConstants.{RESERVATION_CELL, FETCH_SLOT, RESERVATION_SLOT}
+use Rattle.rv_base.specs.declared.machine.TheConstants.{EXIT, MISALIGNED_STORE}
 use Rattle.rv_base.specs.declared.record.End.{End}
 use Rattle.rv_spec.specs.Words.{AreBytes}
 use Rattle.rv_spec.specs.Elf.{Image}
@@ -16,13 +18,13 @@ Rises lo hi (u ∷ us) = (lo ≤ u.slot) × Rises (u.slot + 1) hi us
 
 -- the cells are some of the version, and none is above the reservation
 abbrev pub AreCells : ℕ → List Use → Type 0
-AreCells version us = AllByRecursion (λ u. IsTrue (is_cell version u.cell) × (u.cell < 2 ^ 30 + 33)) us
+AreCells version us = AllByRecursion (λ u. IsTrue (is_cell version u.cell) × (u.cell < RESERVATION_CELL + 1)) us
 
--- a kind up to 5; a code, which is a word, in kind 0 alone
+-- one of the kinds; a code, which is a word, in an exit alone
 pub record EndFits (e : End) : Type 0 where
-  pub kind : e.kind ≤ 5
+  pub kind : e.kind ≤ MISALIGNED_STORE
   pub code : e.code < 2 ^ 32
-  pub code_of_exit : (e.kind ≡ 0) ⊎ (e.code ≡ 0)
+  pub code_of_exit : (e.kind ≡ EXIT) ⊎ (e.code ≡ 0)
 
 -- the state after n steps of a run, and its step
 pub record StepFits (i : Image) (input : List ℕ) (n : ℕ) : Type 0 where
@@ -30,7 +32,7 @@ pub record StepFits (i : Image) (input : List ℕ) (n : ℕ) : Type 0 where
   pub taken : (run i input n).position ≤ 4 * n
   pub put : AreBytes (run i input n).output
   pub values : (c : ℕ) → value (run i input n) c < 2 ^ 32
-  pub slots : Rises 1 9 (step_uses input (run i input n))
+  pub slots : Rises FETCH_SLOT (RESERVATION_SLOT + 1) (step_uses input (run i input n))
   pub cells : AreCells i.version (step_uses input (run i input n))
   pub ends : (e : End) → end_at i input n ≡ Some e → EndFits e
 

@@ -1,15 +1,12 @@
 -- What the calls of this crate give, beside the definitions.
-use Rattle.std.specs.Prelude.{◌≡◌, ℕ, Bool, [], if◌then◌else◌, ◌≤◌, ◌-◌, ◌/◌, ◌%◌, List, ◌++◌, length, replicate}
+use Rattle.std.specs.Prelude.{◌≡◌, ℕ, Bool, [], if◌then◌else◌, ◌≤◌, ◌-◌, ◌/◌, List, ◌++◌, length, replicate}
 use Rattle.std.specs.Int.{w32, to_le_bytes}
+use Rattle.rv_base.specs.declared.cells.TheConstants.{MEMORY_SLOT, RD_SLOT, RESERVATION_SLOT}
 use Rattle.rv_base.specs.declared.record.Touch.{Touch}
-use Rattle.rv_base.specs.declared.record.Seen.{Seen}
-use Rattle.rv_base.specs.declared.instr.LoadKind.{LoadKind}
-use Rattle.rv_base.specs.declared.instr.StoreKind.{StoreKind}
-use Rattle.rv_spec.specs.Step.{load_width, store_width}
 use Rattle.rv_spec.specs.Cells.{reservation_cell}
 use Rattle.rv_rules.specs.Expected as isa
 use Rattle.rv_isa.specs.declared.expected.Expected.{Expected}
-use Rattle.rv_isa.specs.declared.outcome.Outcome.{Outcome}
+use Rattle.rv_isa.specs.declared.step.Outcome.{Outcome}
 
 -- The accesses follow those that were there, and the step goes on as the expected one. The bytes put are the first of a word, and zeros are behind them.
 pub record AppendsExpected (e : isa.Expected) (before after : List Touch) (o : Outcome) : Type 0 where
@@ -21,16 +18,9 @@ pub record AppendsExpected (e : isa.Expected) (before after : List Touch) (o : O
   pub word : to_le_bytes w32 o.word ≡ e.put ++ replicate (4 - o.put) 0
   pub most : o.put ≤ 4
 
--- a load and a store of an address, with their reads
-abbrev pub expected_load : ℕ → LoadKind → ℕ → ℕ → ℕ → Seen → isa.Expected
-expected_load pc kind rd rs1 a v = isa.moves pc (load_width kind) a 4 (isa.reads_one rs1 v) (isa.touch 6 (a / 4) v.s6 ++ isa.on_register 7 rd (isa.extract kind v.s6 (a % 4)))
-
-abbrev pub expected_store : ℕ → StoreKind → ℕ → ℕ → ℕ → Seen → isa.Expected
-expected_store pc kind rs1 rs2 a v = isa.moves pc (store_width kind) a 5 (isa.reads_two rs1 rs2 v) (isa.touch 6 (a / 4) (isa.merge kind v.s6 (a % 4) (isa.operand rs2 v.s3)))
-
 -- the accesses of a store-conditional, by whether its word is reserved
 abbrev pub conditional_writes : ℕ → ℕ → ℕ → Bool → List Touch
-conditional_writes rd a b reserved = (if reserved then isa.touch 6 (a / 4) b else []) ++ isa.on_register 7 rd (if reserved then 0 else 1) ++ isa.touch 8 reservation_cell 0
+conditional_writes rd a b reserved = (if reserved then isa.touch MEMORY_SLOT (a / 4) b else []) ++ isa.on_register RD_SLOT rd (if reserved then 0 else 1) ++ isa.touch RESERVATION_SLOT reservation_cell 0
 
 -- A call gives the expected step. The bytes put are the first of a word, and zeros are behind them.
 pub record RepresentsExpected (e : isa.Expected) (g : Expected) : Type 0 where

@@ -1,32 +1,32 @@
 //! The expected step of each instruction of extension A.
 
-ghost use Rattle.std.specs.Prelude.{◌≡◌, ◌%◌, ◌++◌, ◌≤◌};
+ghost use Rattle.std.specs.Prelude.{◌≡◌, ◌%◌, ◌+◌, ◌++◌, ◌<◌, ◌≤◌, ◌==◌};
 ghost use Rattle.arrayvec.specs.ArrayVec.{array_vec_len};
 ghost use Rattle.rv_rules.specs.Expected as isa;
 ghost use Rattle.rv_isa.specs.Represented.{AppendsExpected, conditional_writes};
 
-use crate::accesses::{Touches, on_register, operand, read_two, touch};
-use crate::outcome::{Outcome, pc_plus_4};
+use crate::accesses::operand;
+use crate::step::{Outcome, Step};
 use rv_alu::amo_result;
-use rv_base::{Atomic, AtomicOp, Seen};
-
-/// The cell of the reservation: the number of the reserved address and 1, or 0 where none is reserved.
-const RESERVATION_CELL: u32 = 0x4000_0020;
+use rv_base::cells::{MEMORY_SLOT, RD_SLOT, RESERVATION_CELL, RESERVATION_SLOT};
+use rv_base::machine::{MISALIGNED_LOAD, MISALIGNED_STORE};
+use rv_base::{Atomic, AtomicOp};
 
 /// The expected step of an atomic instruction.
 #[tactic(auto, unfolding(rv_rules::specs::Expected::expected_atomic), using(crate::proofs::Made::made))]
-pub(crate) fn atomic(touches: &mut Touches, pc: u32, atomic: Atomic, seen: &Seen) -> Outcome
-    requires { array_vec_len touches.old ≤ 1 }
-    ensures { AppendsExpected (isa.expected_atomic pc atomic seen.now) touches.old.items touches.new.items result }
+pub(crate) fn atomic(step: &mut Step<'_, '_>, atomic: Atomic) -> Outcome
+    requires { array_vec_len step.old.touches.list ≤ 1 }
+    ensures { AppendsExpected (isa.expected_atomic step.old.pc atomic step.old.seen.now) step.old.touches.list.items step.new.touches.list.items result }
 {
-    let address = operand(atomic.rs1, seen.s2);
-    let value = operand(atomic.rs2, seen.s3);
-    read_two(touches, seen, atomic.rs1, atomic.rs2);
+    let address = operand(atomic.rs1, step.seen.s2);
+    let value = operand(atomic.rs2, step.seen.s3);
+    step.touches.read_two(step.seen, atomic.rs1, atomic.rs2);
     if address % 4 != 0 {
-        return Outcome::ends(pc, misaligned_kind(atomic.op), 0);
+        return step.ends(misaligned_kind(atomic.op), 0);
     }
-    write(touches, atomic, address, value, seen);
-    Outcome::goes_to(pc_plus_4(pc))
+    let next = step.goes_on();
+    write(step, atomic, address, value);
+    next
 }
 
 /// The kind of an end at a misaligned address.
@@ -34,40 +34,46 @@ fn misaligned_kind(op: AtomicOp) -> u8
     ensures { result ≡ isa.misaligned_kind op }
 {
     match op {
-        AtomicOp::Lr => 4,
-        _ => 5,
+        AtomicOp::Lr => MISALIGNED_LOAD,
+        _ => MISALIGNED_STORE,
     }
 }
 
-/// What an aligned atomic instruction accesses after its reads.
-fn write(touches: &mut Touches, atomic: Atomic, address: u32, value: u32, seen: &Seen)
-    requires room { array_vec_len touches.old ≤ 5 }
+/// What an aligned atomic instruction accesses after its reads. A reservation is the reserved address and 1.
+fn write(step: &mut Step<'_, '_>, atomic: Atomic, address: u32, value: u32)
+    requires room { array_vec_len step.old.touches.list ≤ 5 }
     requires aligned { address % 4 ≡ 0 }
-    ensures { touches.new.items ≡ touches.old.items ++ isa.atomic_writes atomic.op atomic.rd address value seen.now }
+    ensures { step.new.touches.list.items ≡ step.old.touches.list.items ++ isa.atomic_writes atomic.op atomic.rd address value step.old.seen.now }
 {
     let rd = atomic.rd;
+    let word = step.seen.s6;
     match atomic.op {
         AtomicOp::Lr => {
-            touch(touches, 6, address / 4, seen.s6);
-            on_register(touches, 7, rd, seen.s6);
-            touch(touches, 8, RESERVATION_CELL, address + 1);
+            step.touches.touch(MEMORY_SLOT, address / 4, word);
+            step.touches.on_register(RD_SLOT, rd, word);
+            step.touches
+                .touch(RESERVATION_SLOT, RESERVATION_CELL, address + 1);
         }
-        AtomicOp::Sc => store_conditional(touches, rd, address, value, seen.s8 == address + 1),
+        AtomicOp::Sc => store_conditional(step, rd, address, value),
         op => {
-            touch(touches, 6, address / 4, amo_result(op, seen.s6, value));
-            on_register(touches, 7, rd, seen.s6);
+            let new = amo_result(op, word, value);
+            step.touches.touch(MEMORY_SLOT, address / 4, new);
+            step.touches.on_register(RD_SLOT, rd, word);
         }
     }
 }
 
 /// A store-conditional stores where its word is reserved, and the reservation ends.
-fn store_conditional(touches: &mut Touches, rd: u8, address: u32, value: u32, reserved: bool)
-    requires { array_vec_len touches.old ≤ 5 }
-    ensures { touches.new.items ≡ touches.old.items ++ conditional_writes rd address value reserved }
+fn store_conditional(step: &mut Step<'_, '_>, rd: u8, address: u32, value: u32)
+    requires room { array_vec_len step.old.touches.list ≤ 5 }
+    requires aligned { address % 4 ≡ 0 }
+    ensures { step.new.touches.list.items ≡ step.old.touches.list.items ++ conditional_writes rd address value (step.old.seen.now.s8 == address + 1) }
 {
+    let reserved = step.seen.s8 == address + 1;
     if reserved {
-        touch(touches, 6, address / 4, value);
+        step.touches.touch(MEMORY_SLOT, address / 4, value);
     }
-    on_register(touches, 7, rd, if reserved { 0 } else { 1 });
-    touch(touches, 8, RESERVATION_CELL, 0);
+    step.touches
+        .on_register(RD_SLOT, rd, if reserved { 0 } else { 1 });
+    step.touches.touch(RESERVATION_SLOT, RESERVATION_CELL, 0);
 }

@@ -1,20 +1,21 @@
 //! The step that a row has to show, by the row's own old values.
 
-ghost use Rattle.std.specs.Prelude.{◌==◌, if◌then◌else◌, ◌≡◌, ◌%◌, ◌≤◌, ◌⊎◌, length};
+ghost use Rattle.std.specs.Prelude.{ℕ, ◌≡◌, ◌/◌, ◌%◌, ◌≤◌, ◌⊎◌, length};
 ghost use Rattle.arrayvec.specs.ArrayVec.{array_vec_len};
-ghost use Rattle.rv_spec.specs.Decode as spec;
 ghost use Rattle.rv_spec.specs.Decode.{decode_any};
 ghost use Rattle.rv_rules.specs.Expected as isa;
+ghost use Rattle.rv_isa.specs.Decoded.{any_of};
 ghost use Rattle.rv_isa.specs.Represented.{RepresentsExpected, AppendsExpected};
 
-use crate::accesses::{Touches, touch};
+use crate::accesses::Touches;
 use crate::atomic::atomic;
-use crate::environment::call;
+use crate::decoded::Decoded;
 use crate::instructions::instruction;
-use crate::outcome::Outcome;
+use crate::step::{Outcome, Step};
 use arrayvec::ArrayVec;
-use rv_base::{Atomic, End, Instr, Seen, Touch};
-use rv_decode::{decode, decode_atomic};
+use rv_base::cells::FETCH_SLOT;
+use rv_base::machine::ILLEGAL_WORD;
+use rv_base::{End, Seen, Touch};
 
 /// An expected step: its accesses in the order of their slots, the next instruction, the end if the
 /// step ends the run, and the bytes of input that it takes. The bytes that it puts, 0 to 4, are the
@@ -32,18 +33,23 @@ pub struct Expected {
 /// The step at `pc` and a position of the input, in a version of the machine: 1 for RV32IM, 2 for
 /// RV32IMA (RISC-V Unprivileged ISA). `seen` has the old value in each slot, with the instruction
 /// word in slot 1. It knows nothing else of registers and memory.
-#[tactic(auto, unfolding(rv_rules::specs::Expected::expected))]
 pub fn expect(version: u8, pc: u32, seen: &Seen, input: &[u8], at: u64) -> Expected
     requires version { (version ≡ 1) ⊎ (version ≡ 2) }
     requires aligned { pc % 4 ≡ 0 }
     requires within { at ≤ length input.now }
     ensures { RepresentsExpected (isa.expected version pc seen.now input.now at) result }
 {
-    let mut touches = ArrayVec::new();
-    touch(&mut touches, 1, pc / 4, seen.s1);
-    let outcome = after_fetch(&mut touches, version, pc, seen, input, at);
+    let decoded = Decoded::of_word(version, seen.s1);
+    let mut step = Step {
+        pc,
+        seen,
+        input,
+        at,
+        touches: Touches::new(),
+    };
+    let outcome = make(&mut step, decoded);
     Expected {
-        touches,
+        touches: step.touches.list,
         next: outcome.next,
         end: outcome.end,
         took: outcome.took,
@@ -52,36 +58,32 @@ pub fn expect(version: u8, pc: u32, seen: &Seen, input: &[u8], at: u64) -> Expec
     }
 }
 
-/// The step of the word in slot 1.
-fn after_fetch(
-    touches: &mut Touches,
-    version: u8,
-    pc: u32,
-    seen: &Seen,
-    input: &[u8],
-    at: u64,
-) -> Outcome
-    requires room { array_vec_len touches.old ≤ 1 }
-    requires within { at ≤ length input.now }
-    ensures { AppendsExpected (isa.expected_any input.now at pc (decode_any version seen.now.s1) seen.now) touches.old.items touches.new.items result }
-{
-    match decode(seen.s1) {
-        Some(Instr::Ecall) => call(touches, pc, seen, input, at),
-        Some(instr) => instruction(touches, pc, instr, seen),
-        None => match atomic_of(version, seen.s1) {
-            Some(instr) => atomic(touches, pc, instr, seen),
-            None => Outcome::ends(pc, 1, 0),
-        },
-    }
+/// What a step finds: the old value in each slot, and what the word in slot 1 is.
+#[derive(Clone, Copy, Debug)]
+pub(crate) struct Found {
+    pub seen: Seen,
+    pub decoded: Decoded,
 }
 
-/// The atomic instruction of a word, in a version that has it.
-pub(crate) fn atomic_of(version: u8, word: u32) -> Option<Atomic>
-    ensures { result ≡ (if version == 2 then spec.decode_atomic word else None) }
+/// Makes a step that has no access yet, whose word is decoded.
+pub(crate) fn make(step: &mut Step<'_, '_>, decoded: Decoded) -> Outcome
+    requires begins { array_vec_len step.old.touches.list ≡ 0 }
+    requires within { step.old.at ≤ length step.old.input.now }
+    ensures { (version : ℕ) → any_of decoded ≡ decode_any version step.old.seen.now.s1 → AppendsExpected (isa.expected version step.old.pc step.old.seen.now step.old.input.now step.old.at) step.old.touches.list.items step.new.touches.list.items result }
 {
-    if version == 2 {
-        decode_atomic(word)
-    } else {
-        None
+    step.touches.touch(FETCH_SLOT, step.pc / 4, step.seen.s1);
+    after_fetch(step, decoded)
+}
+
+/// The step of a decoded word.
+fn after_fetch(step: &mut Step<'_, '_>, decoded: Decoded) -> Outcome
+    requires room { array_vec_len step.old.touches.list ≤ 1 }
+    requires within { step.old.at ≤ length step.old.input.now }
+    ensures { AppendsExpected (isa.expected_any step.old.input.now step.old.at step.old.pc (any_of decoded) step.old.seen.now) step.old.touches.list.items step.new.touches.list.items result }
+{
+    match decoded {
+        Decoded::Rv32im(instr) => instruction(step, instr),
+        Decoded::Rv32a(instr) => atomic(step, instr),
+        Decoded::Illegal => step.ends(ILLEGAL_WORD, 0),
     }
 }

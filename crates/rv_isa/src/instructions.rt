@@ -1,33 +1,35 @@
 //! The expected step of each instruction of RV32I and M.
 
-ghost use Rattle.std.specs.Prelude.{[], ℕ, List, ◌≡◌, ◌+◌, ◌/◌, ◌%◌, ◌++◌, ◌<◌, ◌≤◌};
+ghost use Rattle.std.specs.Prelude.{[], ◌≡◌, ◌+◌, ◌/◌, ◌%◌, ◌++◌, ◌<◌, ◌≤◌, length};
 ghost use Rattle.std.specs.Int.{w32, cast_unsigned};
 ghost use Rattle.arrayvec.specs.ArrayVec.{array_vec_len};
 ghost use Rattle.rv_rules.specs.Expected as isa;
-ghost use Rattle.rv_spec.specs.Step as step;
-ghost use Rattle.rv_spec.specs.Words.{plus};
-ghost use Rattle.rv_isa.specs.Represented.{AppendsExpected, expected_load, expected_store};
+ghost use Rattle.rv_spec.specs.Step as spec;
+ghost use Rattle.rv_isa.specs.Represented.{AppendsExpected};
 
-use crate::accesses::{Touches, on_register, operand, read_one, read_two, touch};
-use crate::outcome::{Outcome, pc_plus_4};
+use crate::accesses::operand;
+use crate::environment::call;
+use crate::step::{Outcome, Step, offset};
 use rv_alu::{compute, extract, merge, taken};
-use rv_base::{Instr, LoadKind, Seen, StoreKind};
+use rv_base::cells::{MEMORY_SLOT, RD_SLOT};
+use rv_base::machine::{BREAKPOINT, MISALIGNED_LOAD, MISALIGNED_STORE};
+use rv_base::{Instr, LoadKind, StoreKind};
 
-/// The expected step of an instruction that is no call of the environment.
+/// The expected step of an instruction.
 #[tactic(auto, unfolding(rv_rules::specs::Expected::expected_instr), using(crate::proofs::Made::made))]
-pub(crate) fn instruction(touches: &mut Touches, pc: u32, instr: Instr, seen: &Seen) -> Outcome
-    requires room { array_vec_len touches.old ≤ 1 }
-    requires no_call { ¬ (instr ≡ Instr.Ecall) }
-    ensures { (input : List ℕ) (at : ℕ) → AppendsExpected (isa.expected_instr input at pc instr seen.now) touches.old.items touches.new.items result }
+pub(crate) fn instruction(step: &mut Step<'_, '_>, instr: Instr) -> Outcome
+    requires room { array_vec_len step.old.touches.list ≤ 1 }
+    requires within { step.old.at ≤ length step.old.input.now }
+    ensures { AppendsExpected (isa.expected_instr step.old.input.now step.old.at step.old.pc instr step.old.seen.now) step.old.touches.list.items step.new.touches.list.items result }
 {
     match instr {
-        Instr::Lui { rd, imm } => set_register(touches, pc, rd, imm),
-        Instr::Auipc { rd, imm } => set_register(touches, pc, rd, pc.wrapping_add(imm)),
-        Instr::Jal { rd, off } => jump(touches, pc, offset(pc, off), rd),
+        Instr::Lui { rd, imm } => step.sets(rd, imm),
+        Instr::Auipc { rd, imm } => step.sets(rd, step.pc.wrapping_add(imm)),
+        Instr::Jal { rd, off } => step.jumps(offset(step.pc, off), rd),
         Instr::Jalr { rd, rs1, imm } => {
-            let sum = offset(operand(rs1, seen.s2), imm);
-            read_one(touches, seen, rs1);
-            jump(touches, pc, sum - sum % 2, rd)
+            let sum = step.address(rs1, imm);
+            step.touches.read_one(step.seen, rs1);
+            step.jumps(sum - sum % 2, rd)
         }
         Instr::Branch {
             cond,
@@ -35,16 +37,18 @@ pub(crate) fn instruction(touches: &mut Touches, pc: u32, instr: Instr, seen: &S
             rs2,
             off,
         } => {
-            read_two(touches, seen, rs1, rs2);
+            let seen = step.seen;
+            step.touches.read_two(seen, rs1, rs2);
             if taken(cond, operand(rs1, seen.s2), operand(rs2, seen.s3)) {
-                jump(touches, pc, offset(pc, off), 0)
+                step.jumps(offset(step.pc, off), 0)
             } else {
-                Outcome::goes_to(pc_plus_4(pc))
+                step.goes_on()
             }
         }
         Instr::Load { kind, rd, rs1, imm } => {
-            let address = offset(operand(rs1, seen.s2), imm);
-            load(touches, pc, kind, rd, rs1, address, seen)
+            let address = step.address(rs1, imm);
+            step.touches.read_one(step.seen, rs1);
+            load(step, kind, rd, address)
         }
         Instr::Store {
             kind,
@@ -52,55 +56,31 @@ pub(crate) fn instruction(touches: &mut Touches, pc: u32, instr: Instr, seen: &S
             rs2,
             imm,
         } => {
-            let address = offset(operand(rs1, seen.s2), imm);
-            store(touches, pc, kind, rs1, rs2, address, seen)
+            let address = step.address(rs1, imm);
+            let value = operand(rs2, step.seen.s3);
+            step.touches.read_two(step.seen, rs1, rs2);
+            store(step, kind, address, value)
         }
         Instr::OpImm { op, rd, rs1, imm } => {
-            let value = compute(op, operand(rs1, seen.s2), imm.cast_unsigned());
-            read_one(touches, seen, rs1);
-            set_register(touches, pc, rd, value)
+            let value = compute(op, operand(rs1, step.seen.s2), imm.cast_unsigned());
+            step.touches.read_one(step.seen, rs1);
+            step.sets(rd, value)
         }
         Instr::Op { op, rd, rs1, rs2 } => {
+            let seen = step.seen;
             let value = compute(op, operand(rs1, seen.s2), operand(rs2, seen.s3));
-            read_two(touches, seen, rs1, rs2);
-            set_register(touches, pc, rd, value)
+            step.touches.read_two(seen, rs1, rs2);
+            step.sets(rd, value)
         }
-        Instr::Fence { .. } => Outcome::goes_to(pc_plus_4(pc)),
-        Instr::Ebreak | Instr::Ecall => Outcome::ends(pc, 2, 0),
+        Instr::Fence { .. } => step.goes_on(),
+        Instr::Ecall => call(step),
+        Instr::Ebreak => step.ends(BREAKPOINT, 0),
     }
-}
-
-/// The address at a signed distance, modulo 2^32.
-pub(crate) fn offset(from: u32, distance: i32) -> u32
-    ensures { result ≡ plus from distance }
-{
-    from.wrapping_add(distance.cast_unsigned())
-}
-
-/// A step that leaves a value in rd and goes on.
-fn set_register(touches: &mut Touches, pc: u32, rd: u8, value: u32) -> Outcome
-    requires { array_vec_len touches.old < 8 }
-    ensures { AppendsExpected (isa.goes_to (isa.pc_plus_4 pc) (isa.on_register 7 rd value)) touches.old.items touches.new.items result }
-{
-    on_register(touches, 7, rd, value);
-    Outcome::goes_to(pc_plus_4(pc))
-}
-
-/// A jump writes only where its target is aligned.
-fn jump(touches: &mut Touches, pc: u32, target: u32, rd: u8) -> Outcome
-    requires { array_vec_len touches.old < 8 }
-    ensures { AppendsExpected (isa.jumps pc target [] (isa.on_register 7 rd (isa.pc_plus_4 pc))) touches.old.items touches.new.items result }
-{
-    if target % 4 != 0 {
-        return Outcome::ends(pc, 3, 0);
-    }
-    on_register(touches, 7, rd, pc_plus_4(pc));
-    Outcome::goes_to(target)
 }
 
 /// The bytes that a load moves.
 fn load_width(kind: LoadKind) -> u32
-    ensures width { result ≡ step.load_width kind }
+    ensures width { result ≡ spec.load_width kind }
     ensures some { 0 < result }
 {
     match kind {
@@ -112,7 +92,7 @@ fn load_width(kind: LoadKind) -> u32
 
 /// The bytes that a store moves.
 fn store_width(kind: StoreKind) -> u32
-    ensures width { result ≡ step.store_width kind }
+    ensures width { result ≡ spec.store_width kind }
     ensures some { 0 < result }
 {
     match kind {
@@ -122,84 +102,30 @@ fn store_width(kind: StoreKind) -> u32
     }
 }
 
-/// A load from an address.
-#[tactic(auto, using(crate::proofs::Made::made))]
-fn load(
-    touches: &mut Touches,
-    pc: u32,
-    kind: LoadKind,
-    rd: u8,
-    rs1: u8,
-    address: u32,
-    seen: &Seen,
-) -> Outcome
-    requires { array_vec_len touches.old ≤ 1 }
-    ensures { AppendsExpected (expected_load pc kind rd rs1 address seen.now) touches.old.items touches.new.items result }
-{
-    read_one(touches, seen, rs1);
-    load_word(touches, pc, kind, rd, address, seen.s6)
-}
-
-/// A load of a word of memory that is known, after the reads.
+/// A load from an address, after the reads.
 #[tactic(auto, using(crate::proofs::Made::lanes))]
-fn load_word(
-    touches: &mut Touches,
-    pc: u32,
-    kind: LoadKind,
-    rd: u8,
-    address: u32,
-    word: u32,
-) -> Outcome
-    requires { array_vec_len touches.old < 7 }
-    ensures { AppendsExpected (isa.moves pc (step.load_width kind) address 4 [] (isa.touch 6 (address / 4) word ++ isa.on_register 7 rd (isa.extract kind word (address % 4)))) touches.old.items touches.new.items result }
+fn load(step: &mut Step<'_, '_>, kind: LoadKind, rd: u8, address: u32) -> Outcome
+    requires { array_vec_len step.old.touches.list < 7 }
+    ensures { AppendsExpected (isa.moves step.old.pc (spec.load_width kind) address MISALIGNED_LOAD [] (isa.touch MEMORY_SLOT (address / 4) step.old.seen.now.s6 ++ isa.on_register RD_SLOT rd (isa.extract kind step.old.seen.now.s6 (address % 4)))) step.old.touches.list.items step.new.touches.list.items result }
 {
     if address % load_width(kind) != 0 {
-        return Outcome::ends(pc, 4, 0);
+        return step.ends(MISALIGNED_LOAD, 0);
     }
-    touch(touches, 6, address / 4, word);
-    on_register(touches, 7, rd, extract(kind, word, address % 4));
-    Outcome::goes_to(pc_plus_4(pc))
+    let word = step.seen.s6;
+    step.touches.touch(MEMORY_SLOT, address / 4, word);
+    step.sets(rd, extract(kind, word, address % 4))
 }
 
-/// A store to an address.
-#[tactic(auto, using(crate::proofs::Made::made))]
-fn store(
-    touches: &mut Touches,
-    pc: u32,
-    kind: StoreKind,
-    rs1: u8,
-    rs2: u8,
-    address: u32,
-    seen: &Seen,
-) -> Outcome
-    requires { array_vec_len touches.old ≤ 1 }
-    ensures { AppendsExpected (expected_store pc kind rs1 rs2 address seen.now) touches.old.items touches.new.items result }
-{
-    read_two(touches, seen, rs1, rs2);
-    store_word(touches, pc, kind, address, seen.s6, operand(rs2, seen.s3))
-}
-
-/// A store into a word of memory that is known, after the reads.
+/// A store to an address, after the reads.
 #[tactic(auto, using(crate::proofs::Made::lanes))]
-fn store_word(
-    touches: &mut Touches,
-    pc: u32,
-    kind: StoreKind,
-    address: u32,
-    word: u32,
-    value: u32,
-) -> Outcome
-    requires { array_vec_len touches.old < 8 }
-    ensures { AppendsExpected (isa.moves pc (step.store_width kind) address 5 [] (isa.touch 6 (address / 4) (isa.merge kind word (address % 4) value))) touches.old.items touches.new.items result }
+fn store(step: &mut Step<'_, '_>, kind: StoreKind, address: u32, value: u32) -> Outcome
+    requires { array_vec_len step.old.touches.list < 8 }
+    ensures { AppendsExpected (isa.moves step.old.pc (spec.store_width kind) address MISALIGNED_STORE [] (isa.touch MEMORY_SLOT (address / 4) (isa.merge kind step.old.seen.now.s6 (address % 4) value))) step.old.touches.list.items step.new.touches.list.items result }
 {
     if address % store_width(kind) != 0 {
-        return Outcome::ends(pc, 5, 0);
+        return step.ends(MISALIGNED_STORE, 0);
     }
-    touch(
-        touches,
-        6,
-        address / 4,
-        merge(kind, word, address % 4, value),
-    );
-    Outcome::goes_to(pc_plus_4(pc))
+    let word = merge(kind, step.seen.s6, address % 4, value);
+    step.touches.touch(MEMORY_SLOT, address / 4, word);
+    step.goes_on()
 }

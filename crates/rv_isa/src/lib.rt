@@ -1,16 +1,18 @@
 //! The machine of RV32IM and RV32IMA, and the step that a row of a record has to show.
 #![tactic(auto)]
 
+mod abi;
 mod accesses;
 mod atomic;
 mod cells;
+mod decoded;
 mod environment;
 mod expected;
 mod instructions;
 pub mod laws;
 mod machine;
 mod operands;
-mod outcome;
+mod step;
 #[cfg(test)]
 mod tests;
 

@@ -9,8 +9,10 @@ ghost use Rattle.rv_spec.specs.Run.{GoesOn};
 ghost use Rattle.rv_isa.specs.Cells.{cell_value, after_touches, ArePlaced, AreUnchanged};
 ghost use Rattle.rv_isa.specs.Machine.{IsFresh, IsRunOf, Represents, TakesStep};
 
+use crate::accesses::Touches;
 use crate::cells::Cells;
-use crate::expected::{Expected, expect};
+use crate::expected::make;
+use crate::step::{Outcome, Step};
 use rv_base::limits::BUDGET_LIMIT;
 use rv_base::{Bytes, End, NoMemory};
 use rv_elf::Image;
@@ -92,21 +94,28 @@ impl<'a> Machine<'a> {
         if let Some(end) = self.ended {
             return Ok(Turn::Ends(end));
         }
-        let seen = self.cells.see(self.pc);
-        let step = expect(
-            self.cells.image.version(),
-            self.pc,
-            &seen,
-            self.input,
-            self.position,
-        );
-        if let Some(end) = step.end {
+        let found = self.cells.find(self.pc);
+        let seen = found.seen;
+        let mut step = Step {
+            pc: self.pc,
+            seen: &seen,
+            input: self.input,
+            at: self.position,
+            touches: Touches::new(),
+        };
+        let outcome = make(&mut step, found.decoded);
+        if let Some(end) = outcome.end {
             self.ended = Some(end);
             return Ok(Turn::Ends(end));
         }
-        carry_out(&mut self.cells, &mut self.output, &step, seen.s6)?;
-        self.pc = step.next;
-        self.position += step.took as u64;
+        let change = Change {
+            touches: &step.touches,
+            found: seen.s6,
+            outcome,
+        };
+        carry_out(&mut self.cells, &mut self.output, &change)?;
+        self.pc = outcome.next;
+        self.position += outcome.took as u64;
         Ok(Turn::Next)
     }
 
@@ -141,31 +150,33 @@ impl<'a> Machine<'a> {
     }
 }
 
-/// Does the accesses of a step that finds `word` in memory and appends the bytes that it puts, or does neither.
+/// What a step leaves: its accesses, of which the one of memory finds the word `found`, and where it goes.
+#[derive(Drop)]
+struct Change<'a> {
+    touches: &'a Touches,
+    found: u32,
+    outcome: Outcome,
+}
+
+/// Does the accesses of a step and appends the bytes that it puts, or does neither.
 fn carry_out(
     cells: &mut Cells<'_>,
     output: &mut Vec<u8>,
-    step: &Expected,
-    word: u32,
+    change: &Change<'_>,
 ) -> Result<(), NoMemory>
-    requires places { ArePlaced step.now.touches.items }
-    requires most { step.now.put ≤ 4 }
+    requires places { ArePlaced change.now.touches.now.list.items }
+    requires most { change.now.outcome.put ≤ 4 }
     ensures image { cells.new.image ≡ cells.old.image }
-    ensures cells { OnOk result ((c : ℕ) → cell_value cells.new c ≡ after_touches step.now.touches.items word c (cell_value cells.old c)) }
-    ensures output { OnOk result (output.new.items ≡ output.old.items ++ take step.now.put (to_le_bytes w32 step.now.word)) }
+    ensures cells { OnOk result ((c : ℕ) → cell_value cells.new c ≡ after_touches change.now.touches.now.list.items change.now.found c (cell_value cells.old c)) }
+    ensures output { OnOk result (output.new.items ≡ output.old.items ++ take change.now.outcome.put (to_le_bytes w32 change.now.outcome.word)) }
     ensures err { OnErr result (AreUnchanged cells.old cells.new × (output.new.items ≡ output.old.items)) }
 {
     let length = output.len();
-    let bytes = step.word.to_le_bytes();
-    if output
-        .extend_from_slice(&bytes[..step.put as usize])
-        .is_err()
-    {
-        return Err(NoMemory);
-    }
-    if cells.apply(step.touches.as_slice(), word).is_err() {
+    let bytes = change.outcome.word.to_le_bytes();
+    output.extend_from_slice(&bytes[..change.outcome.put as usize])?;
+    let applied = cells.apply(change.touches.list.as_slice(), change.found);
+    if applied.is_err() {
         output.truncate(length);
-        return Err(NoMemory);
     }
-    Ok(())
+    applied
 }

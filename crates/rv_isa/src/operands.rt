@@ -1,17 +1,18 @@
 //! Where an instruction finds what it uses.
 
 ghost use Rattle.std.specs.Prelude.{ℕ, List, ◌≡◌, ◌<◌};
+ghost use Rattle.std.specs.Option.{IfSome};
 ghost use Rattle.std.specs.List.{AllByRecursion};
 ghost use Rattle.rv_spec.specs.Step.{State};
 ghost use Rattle.rv_rules.specs.Agreement.{IsState};
-ghost use Rattle.rv_spec.specs.Decode.{decode_any};
 ghost use Rattle.rv_spec.specs.Visits.{uses, atomic_uses, instruction_uses};
+ghost use Rattle.rv_isa.specs.Decoded.{any_of};
 ghost use Rattle.rv_isa.specs.Operands.{IsBased, IsCovered};
-ghost use Rattle.rv_isa.specs.Fields.{HasFields, HasAtomicFields};
+ghost use Rattle.rv_isa.specs.Fields.{HasFields, HasAtomicFields, HasAnyFields};
 
-use crate::expected::atomic_of;
+use crate::abi::{A0, A1, A7};
+use crate::decoded::Decoded;
 use rv_base::{Atomic, Instr};
-use rv_decode::decode;
 
 /// An address: a register and a signed offset in bytes.
 #[derive(Clone, Copy, Debug)]
@@ -31,17 +32,15 @@ pub(crate) struct Operands {
 }
 
 impl Operands {
-    /// The operands of a word in a version.
-    pub fn of_word(version: u8, word: u32) -> Operands
-        ensures based { IsBased result.address }
-        ensures covered { (input : List ℕ) (s : State) → IsState s → AllByRecursion (IsCovered result s) (instruction_uses input (decode_any version word) s) }
+    /// The operands of a word that is decoded.
+    pub fn of_decoded(decoded: Decoded) -> Operands
+        ensures based { IfSome (any_of decoded) HasAnyFields → IsBased result.address }
+        ensures covered { (input : List ℕ) (s : State) → IsState s → AllByRecursion (IsCovered result s) (instruction_uses input (any_of decoded) s) }
     {
-        match decode(word) {
-            Some(instr) => Operands::of_instruction(instr),
-            None => match atomic_of(version, word) {
-                Some(instr) => Operands::of_atomic(instr),
-                None => Operands::of_registers(0, 0, 0),
-            },
+        match decoded {
+            Decoded::Rv32im(instr) => Operands::of_instruction(instr),
+            Decoded::Rv32a(instr) => Operands::of_atomic(instr),
+            Decoded::Illegal => Operands::of_registers(0, 0, 0),
         }
     }
 
@@ -87,10 +86,10 @@ impl Operands {
             },
             Instr::Ecall => Operands {
                 address: Some(Address {
-                    base: 11,
+                    base: A1,
                     offset: 0,
                 }),
-                ..Operands::of_registers(17, 10, 10)
+                ..Operands::of_registers(A7, A0, A0)
             },
             Instr::Fence { .. } | Instr::Ebreak => Operands::of_registers(0, 0, 0),
         }

@@ -2,6 +2,10 @@ mod machine;
 
 use super::*;
 use rv_base::End;
+use rv_base::cells::{
+    FETCH_SLOT, MEMORY_SLOT, RD_SLOT, REGISTER_CELLS, RESERVATION_CELL, RESERVATION_SLOT, RS1_SLOT,
+};
+use rv_base::machine::{ILLEGAL_WORD, MISALIGNED_JUMP, MISALIGNED_LOAD, NO_SUCH_CALL, READ, WRITE};
 
 const PC: u32 = 0x10000;
 
@@ -52,18 +56,46 @@ fn instructions(rt: HostRuntime) {
     };
     let end = |kind| Some(End { kind, code: 0 });
     for (version, seen, count, last, next, end) in [
-        (1, add, 4, access(7, 0x4000_0002, 0xFFFF_E000), PC + 4, None),
-        (1, jump, 1, access(1, 0x4000, 0x0020_00E7), PC, end(3)),
-        (1, load, 2, access(2, 0x4000_0005, 0x10000), PC, end(4)),
-        (1, store, 4, access(6, 0x4001, 0), PC + 4, None),
-        (2, CONDITIONAL, 6, access(8, 0x4000_0020, 0), PC + 4, None),
+        (
+            1,
+            add,
+            4,
+            access(RD_SLOT, REGISTER_CELLS + 2, 0xFFFF_E000),
+            PC + 4,
+            None,
+        ),
+        (
+            1,
+            jump,
+            1,
+            access(FETCH_SLOT, 0x4000, 0x0020_00E7),
+            PC,
+            end(MISALIGNED_JUMP),
+        ),
+        (
+            1,
+            load,
+            2,
+            access(RS1_SLOT, REGISTER_CELLS + 5, 0x10000),
+            PC,
+            end(MISALIGNED_LOAD),
+        ),
+        (1, store, 4, access(MEMORY_SLOT, 0x4001, 0), PC + 4, None),
+        (
+            2,
+            CONDITIONAL,
+            6,
+            access(RESERVATION_SLOT, RESERVATION_CELL, 0),
+            PC + 4,
+            None,
+        ),
         (
             1,
             CONDITIONAL,
             1,
-            access(1, 0x4000, 0x1862_A3AF),
+            access(FETCH_SLOT, 0x4000, 0x1862_A3AF),
             PC,
-            end(1),
+            end(ILLEGAL_WORD),
         ),
     ] {
         let step = expect(version, PC, &seen, &[], 0);
@@ -78,13 +110,13 @@ fn instructions(rt: HostRuntime) {
 fn calls(rt: HostRuntime) {
     let read = Seen {
         s1: 0x73,
-        s2: 63,
+        s2: READ,
         s4: 0x20003,
         s5: 10,
         ..NOTHING
     };
     let write = Seen {
-        s2: 64,
+        s2: WRITE,
         s3: 1,
         s4: 0x20000,
         s5: 2,
@@ -96,11 +128,11 @@ fn calls(rt: HostRuntime) {
         (read, 0, 7, 1, 1, 0, 0),
         (read, 2, 6, 0, 0, 0, 0),
         (write, 0, 7, 2, 0, 2, 0x6968),
-        (unknown, 0, 3, 0xFFFF_FFDA, 0, 0, 0),
+        (unknown, 0, 3, NO_SUCH_CALL, 0, 0, 0),
     ] {
         let step = expect(1, PC, &seen, &[0x41, 0x42], at);
         assert_eq!(rt; step.touches.len(), count);
-        assert!(rt; step.touches.last() == Some(&access(7, 0x4000_000A, answer)));
+        assert!(rt; step.touches.last() == Some(&access(RD_SLOT, REGISTER_CELLS + 10, answer)));
         assert_eq!(rt; (step.took, step.put, step.word), (took, put, word));
     }
 }

@@ -4,6 +4,11 @@ ghost use Rattle.std.specs.Prelude.{◌≤◌, length, IfOk};
 ghost use Rattle.std.specs.Int.{IsInRange};
 
 use super::*;
+use rv_base::limits::BUDGET_LIMIT;
+use rv_base::machine::{
+    BAD_DESCRIPTOR, BREAKPOINT, EXIT, ILLEGAL_WORD, MISALIGNED_JUMP, MISALIGNED_LOAD,
+    MISALIGNED_STORE, NO_SUCH_CALL,
+};
 use rv_elf::{Part, read, write};
 use std::alloc::Global;
 use std::test::Fail;
@@ -12,16 +17,16 @@ use std::test::Fail;
 const EBREAK: u32 = 0x0010_0073;
 
 /// `addi x10, x0, 42`, and an exit.
-const EXIT: [u32; 3] = [0x02A0_0513, 0x05D0_0893, 0x73];
+const EXITS: [u32; 3] = [0x02A0_0513, 0x05D0_0893, 0x73];
 
 /// Stores 0 onto its own word, jumps back to it, and fetches the 0.
 const OVERWRITE: [u32; 3] = [0x0001_02B7, 0x0062_A223, 0xFFDF_F06F];
 
 /// `lw x6, 2(x5)`, where x5 is a multiple of 4.
-const MISALIGNED_LOAD: [u32; 2] = [0x0001_02B7, 0x0022_A303];
+const ODD_LOAD: [u32; 2] = [0x0001_02B7, 0x0022_A303];
 
 /// `sw x6, 2(x5)`, where x5 is a multiple of 4.
-const MISALIGNED_STORE: [u32; 2] = [0x0001_02B7, 0x0062_A123];
+const ODD_STORE: [u32; 2] = [0x0001_02B7, 0x0062_A123];
 
 /// Writes the three bytes behind its code, and exits with the answer.
 const HELLO: [u32; 9] = [
@@ -113,7 +118,7 @@ fn run(
 ) -> Result<Result<Ran, RunStop>, Fail>
     requires version { IsInRange 1 2 version }
     requires few { length words.now ≤ 100 }
-    requires budget { IsInRange 1 8388608 budget }
+    requires budget { IsInRange 1 BUDGET_LIMIT budget }
 {
     let file = file_of(alloc, words)?;
     let image = read(file.as_slice())?.with_version(version);
@@ -123,19 +128,19 @@ fn run(
 #[test]
 fn ends(rt: HostRuntime) -> Result<(), Fail> {
     for (version, words, steps, kind, code) in [
-        (1, EXIT.as_slice(), 3, 0, 42),
-        (1, OVERWRITE.as_slice(), 4, 1, 0),
-        (1, [EBREAK].as_slice(), 1, 2, 0),
-        (1, [0x0020_00E7].as_slice(), 1, 3, 0),
-        (1, MISALIGNED_LOAD.as_slice(), 2, 4, 0),
-        (1, MISALIGNED_STORE.as_slice(), 2, 5, 0),
-        (1, TO_ERROR.as_slice(), 6, 0, 9),
-        (1, TO_FIVE.as_slice(), 5, 0, 0xFFFF_FFF7),
-        (1, UNKNOWN.as_slice(), 4, 0, 0xFFFF_FFDA),
-        (1, RESERVED.as_slice(), 2, 1, 0),
-        (2, RESERVED.as_slice(), 4, 1, 0),
-        (2, STORED.as_slice(), 6, 0, 0),
-        (2, REFUSED.as_slice(), 4, 0, 1),
+        (1, EXITS.as_slice(), 3, EXIT, 42),
+        (1, OVERWRITE.as_slice(), 4, ILLEGAL_WORD, 0),
+        (1, [EBREAK].as_slice(), 1, BREAKPOINT, 0),
+        (1, [0x0020_00E7].as_slice(), 1, MISALIGNED_JUMP, 0),
+        (1, ODD_LOAD.as_slice(), 2, MISALIGNED_LOAD, 0),
+        (1, ODD_STORE.as_slice(), 2, MISALIGNED_STORE, 0),
+        (1, TO_ERROR.as_slice(), 6, EXIT, 9),
+        (1, TO_FIVE.as_slice(), 5, EXIT, BAD_DESCRIPTOR),
+        (1, UNKNOWN.as_slice(), 4, EXIT, NO_SUCH_CALL),
+        (1, RESERVED.as_slice(), 2, ILLEGAL_WORD, 0),
+        (2, RESERVED.as_slice(), 4, ILLEGAL_WORD, 0),
+        (2, STORED.as_slice(), 6, EXIT, 0),
+        (2, REFUSED.as_slice(), 4, EXIT, 1),
     ] {
         let ran = run(rt.alloc(), version, words, &[], 100)??;
         assert_eq!(rt; (ran.steps, ran.end), (steps, End { kind, code }));
@@ -147,7 +152,16 @@ fn ends(rt: HostRuntime) -> Result<(), Fail> {
 #[test]
 fn reads_and_writes(rt: HostRuntime) -> Result<(), Fail> {
     let hello = run(rt.alloc(), 1, &HELLO, &[], 100)??;
-    assert_eq!(rt; (hello.steps, hello.end), (8, End { kind: 0, code: 3 }));
+    assert_eq!(rt;
+        (hello.steps, hello.end),
+        (
+            8,
+            End {
+                kind: EXIT,
+                code: 3
+            }
+        )
+    );
     assert_eq!(rt; hello.output.list(), b"hi\n".as_slice());
 
     let reads = run(rt.alloc(), 1, &READS, &[0x41, 0x42], 100)??;
@@ -158,7 +172,7 @@ fn reads_and_writes(rt: HostRuntime) -> Result<(), Fail> {
 #[test]
 fn budgets(rt: HostRuntime) -> Result<(), Fail> {
     let jump_to_itself = [0x6F];
-    for (words, budget) in [(EXIT.as_slice(), 2), (jump_to_itself.as_slice(), 1000)] {
+    for (words, budget) in [(EXITS.as_slice(), 2), (jump_to_itself.as_slice(), 1000)] {
         let ran = run(rt.alloc(), 1, words, &[], budget)?;
         assert!(rt; matches!(ran, Err(RunStop::Budget)));
     }
@@ -167,10 +181,13 @@ fn budgets(rt: HostRuntime) -> Result<(), Fail> {
 
 #[test]
 fn steps_after_the_end(rt: HostRuntime) -> Result<(), Fail> {
-    let file = file_of(rt.alloc(), &EXIT)?;
+    let file = file_of(rt.alloc(), &EXITS)?;
     let image = read(file.as_slice())?;
     let mut machine = Machine::start(rt.alloc(), &image, &[]);
-    let exit = Turn::Ends(End { kind: 0, code: 42 });
+    let exit = Turn::Ends(End {
+        kind: EXIT,
+        code: 42,
+    });
     for turn in [Turn::Next, Turn::Next, exit, exit] {
         assert_eq!(rt; machine.step()?, turn);
     }

@@ -1,19 +1,14 @@
 use Rattle.std.proofs.Common.{◌+◌, ◌≤◌, length, Some, refl, sym, subst, arith}
 use Rattle.rv_spec.specs.Step.{step}
-use Rattle.rv_rules.specs.Expected as isa
 use Rattle.rv_isa.specs.declared.machine.Turn.TheVariants.{Next, Ends}
-use Rattle.rv_isa.specs.Represented.{RepresentsExpected}
 use Rattle.rv_isa.specs.MachineState.{MachineState}
 use Rattle.rv_isa.specs.MachineView.{machine_view}
 use Rattle.rv_isa.specs.Machine.{Represents, TakesStep}
-use Rattle.rv_isa.proofs.MachineLaws.{pc-aligned, position-within, stops, goes-on, all-placed, took-within, next-sound, same-sound}
+use Rattle.rv_isa.proofs.MachineLaws.{given, position-within, stops, goes-on, all-placed, took-within, next-sound, same-sound}
 use Rattle.rv_isa.proofs.machine.Machine.step.Goals as goal
 
-pub expect-step-requires-clause-aligned : goal.expect-step-requires-clause-aligned
-expect-step-requires-clause-aligned c = pc-aligned (machine_view c.self.inside) c.self.invariant
-
-pub expect-step-requires-clause-within : goal.expect-step-requires-clause-within
-expect-step-requires-clause-within c = position-within (machine_view c.self.inside) c.self.invariant
+pub make-outcome-requires-clause-within : goal.make-outcome-requires-clause-within
+make-outcome-requires-clause-within c = position-within (machine_view c.self.inside) c.self.invariant
 
 pub invariant_of-self : goal.invariant_of-self
 invariant_of-self c = same-sound (machine_view c.self.inside) _ c.self.invariant _ refl
@@ -21,21 +16,23 @@ invariant_of-self c = same-sound (machine_view c.self.inside) _ c.self.invariant
 pub returns-in-Some-end-clause-ok : goal.returns-in-Some-end-clause-ok
 returns-in-Some-end-clause-ok c s shows none =
     let m : MachineState = machine_view c.self.inside in
-    let v = c.see-seen.result in
-    let g = c.expect-step.result in
-    let gives = subst (λ n. RepresentsExpected (isa.expected n m.pc v m.input m.position) g) c.version.ensures.value c.expect-step.ensures in
+    let v = c.find-found.result.seen in
+    let ts = c.make-outcome.new.step.touches.list.items in
+    let g = c.make-outcome.result in
+    let gives = given m v ts g _ c.new.ensures.items (c.make-outcome.ensures m.image.version c.find-found.ensures.decoded) in
     let here : Represents m s = subst (λ (k : MachineState). Represents k s) (sym c.self.view_is) shows in
-    let sees = c.see-seen.ensures m.input s here.ranges here.cells (sym here.version) (sym here.pc) in
+    let sees = c.find-found.ensures.sees m.input s here.ranges here.cells (sym here.version) (sym here.pc) in
     subst (λ (k : MachineState). TakesStep (step k.input s) s (Ends c.in-Some-end.end) (record m { ended = Some c.in-Some-end.end })) c.self.view_is
-    (stops m v g gives c.self.invariant.bytes s here sees c.in-Some-end.end c.in-Some-end.is (record m { ended = Some c.in-Some-end.end }) refl)
+    (stops m v ts g gives c.self.invariant.bytes s here sees c.in-Some-end.end c.in-Some-end.is (record m { ended = Some c.in-Some-end.end }) refl)
 
 pub carry_out-requires-clause-places : goal.carry_out-requires-clause-places
 carry_out-requires-clause-places c =
     let m : MachineState = machine_view c.self.inside in
-    let v = c.see-seen.result in
-    let g = c.expect-step.result in
-    let gives = subst (λ n. RepresentsExpected (isa.expected n m.pc v m.input m.position) g) c.version.ensures.value c.expect-step.ensures in
-    all-placed m v g gives c.self.invariant.bytes c.self.invariant (λ s h. c.see-seen.ensures m.input s h.ranges h.cells (sym h.version) (sym h.pc))
+    let v = c.find-found.result.seen in
+    let ts = c.make-outcome.new.step.touches.list.items in
+    let g = c.make-outcome.result in
+    let gives = given m v ts g _ c.new.ensures.items (c.make-outcome.ensures m.image.version c.find-found.ensures.decoded) in
+    all-placed m v ts g gives c.self.invariant.bytes c.self.invariant (λ s h. c.find-found.ensures.sees m.input s h.ranges h.cells (sym h.version) (sym h.pc))
 
 pub invariant_of-self-in_err-carry_out : goal.invariant_of-self-in_err-carry_out
 invariant_of-self-in_err-carry_out c =
@@ -46,19 +43,21 @@ invariant_of-self-in_err-carry_out c =
 pub overflow_add-self : goal.overflow_add-self
 overflow_add-self c =
     let m : MachineState = machine_view c.self.inside in
-    let v = c.see-seen.result in
-    let g = c.expect-step.result in
-    let gives = subst (λ n. RepresentsExpected (isa.expected n m.pc v m.input m.position) g) c.version.ensures.value c.expect-step.ensures in
-    let within : m.position + g.took ≤ length m.input = took-within m v g gives c.self.invariant.bytes c.self.invariant (λ s h. c.see-seen.ensures m.input s h.ranges h.cells (sym h.version) (sym h.pc)) in
+    let v = c.find-found.result.seen in
+    let ts = c.make-outcome.new.step.touches.list.items in
+    let g = c.make-outcome.result in
+    let gives = given m v ts g _ c.new.ensures.items (c.make-outcome.ensures m.image.version c.find-found.ensures.decoded) in
+    let within : m.position + g.took ≤ length m.input = took-within m v ts g gives c.self.invariant.bytes c.self.invariant (λ s h. c.find-found.ensures.sees m.input s h.ranges h.cells (sym h.version) (sym h.pc)) in
     omega arith
 
 pub invariant_of-self-2 : goal.invariant_of-self-2
 invariant_of-self-2 c =
     let m : MachineState = machine_view c.self.inside in
-    let v = c.see-seen.result in
-    let g = c.expect-step.result in
-    let gives = subst (λ n. RepresentsExpected (isa.expected n m.pc v m.input m.position) g) c.version.ensures.value c.expect-step.ensures in
-    next-sound m v g gives c.self.invariant.bytes c.self.invariant (λ s h. c.see-seen.ensures m.input s h.ranges h.cells (sym h.version) (sym h.pc)) c.in_default-end.is _
+    let v = c.find-found.result.seen in
+    let ts = c.make-outcome.new.step.touches.list.items in
+    let g = c.make-outcome.result in
+    let gives = given m v ts g _ c.new.ensures.items (c.make-outcome.ensures m.image.version c.find-found.ensures.decoded) in
+    next-sound m v ts g gives c.self.invariant.bytes c.self.invariant (λ s h. c.find-found.ensures.sees m.input s h.ranges h.cells (sym h.version) (sym h.pc)) c.in_default-end.is _
     (record {
       image = c.carry_out.ensures.image;
       input = refl;
@@ -72,11 +71,12 @@ invariant_of-self-2 c =
 pub returns-clause-ok : goal.returns-clause-ok
 returns-clause-ok c s shows none =
     let m : MachineState = machine_view c.self.inside in
-    let v = c.see-seen.result in
-    let g = c.expect-step.result in
-    let gives = subst (λ n. RepresentsExpected (isa.expected n m.pc v m.input m.position) g) c.version.ensures.value c.expect-step.ensures in
+    let v = c.find-found.result.seen in
+    let ts = c.make-outcome.new.step.touches.list.items in
+    let g = c.make-outcome.result in
+    let gives = given m v ts g _ c.new.ensures.items (c.make-outcome.ensures m.image.version c.find-found.ensures.decoded) in
     let here : Represents m s = subst (λ (k : MachineState). Represents k s) (sym c.self.view_is) shows in
-    let sees = c.see-seen.ensures m.input s here.ranges here.cells (sym here.version) (sym here.pc) in
+    let sees = c.find-found.ensures.sees m.input s here.ranges here.cells (sym here.version) (sym here.pc) in
     let n : MachineState = record m {
       image = c.carry_out.new.cells.image;
       pc = g.next;
@@ -86,7 +86,7 @@ returns-clause-ok c s shows none =
       output = c.carry_out.new.output.items;
     } in
     subst (λ (k : MachineState). TakesStep (step k.input s) s Next n) c.self.view_is
-    (goes-on m v g gives c.self.invariant.bytes s here sees c.in_default-end.is n
+    (goes-on m v ts g gives c.self.invariant.bytes s here sees c.in_default-end.is n
     (record {
       image = c.carry_out.ensures.image;
       input = refl;

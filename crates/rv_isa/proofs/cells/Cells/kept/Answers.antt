@@ -2,7 +2,7 @@ use Rattle.std.proofs.Common.{◌≡◌, slice_index, sym, ◌∙◌}
 use Rattle.std.proofs.Common.{arith}
 use Rattle.std.proofs.lemmas.Grind.{common_steps}
 use Rattle.rv_isa.proofs.CellLaws.{cell-register}
-use Rattle.rv_isa.proofs.cells.Cells.register.Goals as goal
+use Rattle.rv_isa.proofs.cells.Cells.kept.Goals as goal
 
 pub returns : goal.returns
 returns c =
