@@ -1,0 +1,4 @@
+mod Compared
+mod FirstIn
+mod ExpectedPlace
+mod AfterRow
