@@ -4,7 +4,7 @@ use crate::{run_one, run_team};
 use rv_base::{Bytes, NoMemory, Place};
 use rv_book::{Entry, Piece, Task};
 use rv_digest::SetDigest;
-use rv_host::{Gate, OpenGate};
+use rv_host::{Gate, HoldGate, OpenGate};
 use std::alloc::Global;
 use std::sync::atomic::{AtomicU32, Ordering};
 use std::test::Fail;
@@ -126,6 +126,22 @@ fn a_held_worker_holds_up_no_other(rt: HostRuntime) -> Result<(), Fail> {
         assert_eq!(rt; indices, [Some(0), Some(1), Some(2)]);
         let others = book.journal().iter().filter(|entry| entry.pass != held);
         assert!(rt; others.count() >= 2);
+    }
+    Ok(())
+}
+
+// Each of two workers draws a number before the other has made a piece.
+#[test]
+fn two_workers_work_side_by_side(rt: HostRuntime) -> Result<(), Fail> {
+    let gate = HoldGate::new(1_000_000_000);
+    let book = run_team(&rt, rt.alloc(), &NUMBERS, 3, 2, &gate)?;
+    assert!(rt; gate.met());
+    let alone = run_one(rt.alloc(), &NUMBERS, 3)?;
+    assert_eq!(rt; book.count(), alone.count());
+    assert_eq!(rt; book.reads(), alone.reads());
+    assert_eq!(rt; book.writes(), alone.writes());
+    for i in 0..3 {
+        assert_eq!(rt; book.piece(i).map(|piece| piece.index), Some(i));
     }
     Ok(())
 }
