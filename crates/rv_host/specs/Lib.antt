@@ -5,3 +5,4 @@ pub mod Files
 pub mod MemShelf
 pub mod MemSink
 pub mod Transfers
+pub mod Views

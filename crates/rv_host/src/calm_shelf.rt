@@ -59,11 +59,7 @@ impl CalmShelf {
 }
 
 impl Shelf for CalmShelf {
-    ghost files = { λ s. Some s.files };
-
-    ghost read_faults = { λ s name. 0 };
-
-    ghost write_faults = { λ s name. s.write_faults };
+    ghost view = { λ s. record { files = Some s.files; read_faults = λ name. 0; write_faults = λ name. s.write_faults } };
 
     fn read_at(&mut self, name: &str, at: u64, into: &mut [u8]) -> Result<usize, Failed>
         ensures answer { result ≡ Ok (read_count (file self.old.files name.now) at (length into.old) (length into.old)) }

@@ -118,11 +118,7 @@ impl MemShelf {
 }
 
 impl Shelf for MemShelf {
-    ghost files = { λ s. Some s.files };
-
-    ghost read_faults = { λ s name. s.read_faults };
-
-    ghost write_faults = { λ s name. s.write_faults };
+    ghost view = { λ s. record { files = Some s.files; read_faults = λ name. s.read_faults; write_faults = λ name. s.write_faults } };
 
     fn read_at(&mut self, name: &str, at: u64, into: &mut [u8]) -> Result<usize, Failed>
         ensures answer { result_ok result ≡ read_answer self.old name.now at (length into.old) }

@@ -60,9 +60,7 @@ impl MemSink {
 }
 
 impl Sink for MemSink {
-    ghost written = { λ s. Some s.bytes };
-
-    ghost faults = { λ s. s.faults };
+    ghost view = { λ s. record { written = Some s.bytes; faults = s.faults } };
 
     fn put(&mut self, bytes: &[u8]) -> Result<(), Failed>
         ensures { (has_memory : Bool) × (self.new ≡ after_put self.old bytes.now has_memory) × (is_ok result ≡ puts self.old has_memory) }

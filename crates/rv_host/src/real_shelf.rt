@@ -51,11 +51,7 @@ fn add<R: Files>(rt: &R, name: &str, bytes: &[u8]) -> io::Result<()> {
 }
 
 impl<R: Files> Shelf for RealShelf<R> {
-    ghost files = { λ s. None };
-
-    ghost read_faults = { λ s name. s.read_faults };
-
-    ghost write_faults = { λ s name. s.write_faults };
+    ghost view = { λ s. record { files = None; read_faults = λ name. s.read_faults; write_faults = λ name. s.write_faults } };
 
     fn read_at(&mut self, name: &str, at: u64, into: &mut [u8]) -> Result<usize, Failed> {
         count_fault(read_piece(&self.rt, name, at, into), &mut self.read_faults)

@@ -24,9 +24,7 @@ impl<R: Print> RealSink<R> {
 }
 
 impl<R: Print> Sink for RealSink<R> {
-    ghost written = { λ s. None };
-
-    ghost faults = { λ s. s.faults };
+    ghost view = { λ s. record { written = None; faults = s.faults } };
 
     fn put(&mut self, bytes: &[u8]) -> Result<(), Failed> {
         count_fault(io::writer(&self.rt).write_all(bytes), &mut self.faults)

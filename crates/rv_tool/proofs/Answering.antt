@@ -1,240 +1,180 @@
--- The promise of the top call, from what its command left on the shelf and what was printed.
-use Rattle.std.proofs.Common.{◌≡◌, ◌≢◌, ◌⊎◌, inl, inr, ℕ, ◌-◌, ◌^◌, ◌<◌, List, take, length, Option, Some, None, Ok, Err, false, true, nat_lt, refl, sym, ◌∙◌, ap, subst, arith, Bool, ◌==◌}
-use Rattle.std.proofs.Math.Seq.{take-length}
+-- The promise of the top call, from how its command ended and what was printed.
+use Rattle.std.proofs.Common.{◌≡◌, ◌≢◌, ◌⊎◌, inl, inr, ℕ, ◌≤◌, List, [], Bool, true, false, Option, Some, None, Ok, Err, ◌==◌, nat_lt, refl, sym, ◌∙◌, ap, subst, arith, option_map, length, if◌then◌else◌}
 use Rattle.std.proofs.lemmas.Bool.{eqb-false, false≢true}
-use Rattle.rv_host.specs.Counts.{Rose}
-use Rattle.rv_host.specs.Files.{Files, file, with_file}
-use Rattle.rv_host.proofs.Lemmas.{file-with_file}
-use Rattle.rv_tool.specs.CommandLine.{CommandWords, make, run, MakeWords, target_of}
-use Rattle.rv_tool.specs.Faults.{status_of, line_of}
-use Rattle.rv_tool.specs.Outcome.{Outcome, refuses, refusal, outcome_of}
-use Rattle.rv_tool.specs.Shelves.{Shelved, Leaves}
-use Rattle.rv_tool.specs.Promised.{IsOutcome, IsMadeUnless, ReadFailed, WriteFailed}
-use Rattle.rv_tool.specs.Performance.{Performs, Succeeds, Breaks}
-use Rattle.rv_tool.specs.Answers.{Answers, World, world, Sunk, Gains, GainsPrefix, Prints, PrintsFault, NoneRose, IsTornBy}
+use Rattle.std.specs.Int.{IsInRange}
+use Rattle.rv_base.specs.declared.limits.TheConstants.{ELF_LIMIT, INPUT_LIMIT}
+use Rattle.rv_base.specs.declared.record.End.{End}
+use Rattle.rv_spec.specs.Elf.{image, first_fault}
+use Rattle.rv_host.specs.Files.{Files}
+use Rattle.rv_host.specs.Views.{ShelfView, SinkView}
+use Rattle.rv_tool.specs.CommandLine.{CommandWords, make, run, MakeWords, RunWords}
+use Rattle.rv_tool.specs.Faults.{status_of, line_of, has_number}
+use Rattle.rv_tool.specs.Outcome.{Outcome, Plan, read, answer, records, refuses, read_within, unless_faulty, read_program, ran, ends_within, make_plan, run_plan, plan_of, plan, with_due}
+use Rattle.rv_tool.specs.Endings.{Ends, IsMade, IsWritten, Leaves, Reaches}
+use Rattle.rv_tool.specs.Endings.Ends.{done, unread, unwritten, no_memory}
+use Rattle.rv_tool.specs.FileCalls.{Performs, Stops}
+use Rattle.rv_tool.specs.Answers.{Answers, Prints, PrintsFault}
 use Rattle.rv_tool.specs.Answers.Prints.{whole, torn}
+use Rattle.rv_tool.specs.declared.told.Told.{Told}
 use Rattle.rv_tool.specs.declared.faults.Fault.{Fault}
+use Rattle.rv_tool.specs.declared.faults.Limited.{Limited}
+use Rattle.rv_tool.specs.declared.faults.Limited.TheVariants as limited
 use Rattle.rv_tool.specs.declared.faults.Fault.TheVariants.{Words, Elf, Budget, Read, Write, Memory, Limit, NotBuilt}
 
 apart : {m n : ℕ} → (m == n) ≡ false → m ≢ n
 apart {m} {n} e = eqb-false m n e
 
--- a count that stands below its last value and is as before did not rise
-not_risen : (before after : ℕ) → after ≡ before → after < 2 ^ 64 - 1 → Rose before after → ⊥
-not_risen before after same below rose = grind arith
+-- ---- the outcomes of the table
 
--- the writes failed of no name
-unwritten : (c : Option CommandWords) (b a : Shelved) → ((name : List ℕ) → a.write_faults name ≡ b.write_faults name) → ((name : List ℕ) → a.write_faults name < 2 ^ 64 - 1) → WriteFailed c b a → ⊥
-unwritten None b a same below failed = failed
-unwritten (Some c) b a same below failed = not_risen (b.write_faults (target_of c)) (a.write_faults (target_of c)) (same (target_of c)) (below (target_of c)) failed
+-- An outcome has a status of the table, and writes nothing unless it is a success.
+pub record IsListed (o : Outcome) : Type 0 where
+  pub status : o.status ≤ 9
+  pub writes : o.status ≢ 0 → o.writes ≡ []
 
-sink_rose : (c : Option CommandWords) (b a : World) → Rose b.sink.faults a.sink.faults → NoneRose c b a → ⊥
-sink_rose None b a rose none = none rose
-sink_rose (Some c) b a rose none = none.3 rose
+pub AllListed : Plan → Type 0
+AllListed p = (files : Option Files) (o : Outcome) → Reaches files p o → IsListed o
 
--- every command has an outcome
-some_made : (files : Files) (w : MakeWords) (refused : Option Outcome) (team : Bool) → (o : Outcome) × IsMadeUnless team refused files w o
-some_made files w refused true = (refuses files NotBuilt, refl)
-some_made files w (Some o) false = (o, refl)
-some_made files w None false = (refuses files NotBuilt, inr (inl refl))
+refusal_listed : (f : Fault) → IsListed (refuses f)
+refusal_listed Words = record { status = omega arith; writes = λ _. refl }
+refusal_listed (Elf e) = record { status = omega arith; writes = λ _. refl }
+refusal_listed (Budget n) = record { status = omega arith; writes = λ _. refl }
+refusal_listed Read = record { status = omega arith; writes = λ _. refl }
+refusal_listed Write = record { status = omega arith; writes = λ _. refl }
+refusal_listed Memory = record { status = omega arith; writes = λ _. refl }
+refusal_listed (Limit what) = record { status = omega arith; writes = λ _. refl }
+refusal_listed NotBuilt = record { status = omega arith; writes = λ _. refl }
 
-some_outcome : (files : Files) (c : Option CommandWords) → (o : Outcome) × IsOutcome files c o
-some_outcome files None = (outcome_of files None, refl)
-some_outcome files (Some (make w)) = some_made files w (refusal files w.elf w.input) (nat_lt 1 w.workers)
-some_outcome files (Some (run w)) = (outcome_of files (Some (run w)), refl)
+success_listed : (o : Outcome) → o.status ≡ 0 → IsListed o
+success_listed o is = record { status = omega (arith, is); writes = λ n. absurd (n is) }
 
-unchanged : (o : Outcome) (files : Files) (c : Option CommandWords) (after : Option Files) → after ≡ Some files → IsTornBy o files c after
-unchanged o files None after same = same
-unchanged o files (Some c) after same = inl same
+listed_answer : (p : Outcome) → IsListed p → AllListed (answer p)
+unfolding AllListed
+listed_answer p h files o is = subst IsListed (sym is) h
 
--- ---- the line was printed
+listed_if : (b : Bool) (x y : Plan) → AllListed x → AllListed y → AllListed (if b then x else y)
+unfolding AllListed
+listed_if true x y hx hy = hx
+listed_if false x y hx hy = hy
 
-printed : (c : Option CommandWords) (b a : World) (x result : ℕ) → result ≡ x → x ≢ 5 → x ≢ 6 → x ≢ 7 → (x ≢ 0 → a.shelf.files ≡ b.shelf.files)
-    → ((files : Files) → b.shelf.files ≡ Some files → (o : Outcome) × IsOutcome files c o × (x ≡ o.status) × (a.shelf.files ≡ Some o.files) × Gains b.sink a.sink o.line)
-    → Answers c b a result
-printed c b a x result is not5 not6 not7 kept told = record {
-  read = λ h. absurd (not5 (sym is ∙ h));
-  write = λ h. absurd (not6 (sym is ∙ h));
-  kept = λ n m. kept (λ z. n (is ∙ z));
-  read_line = λ h. absurd (not5 (sym is ∙ h));
-  memory_line = λ h. absurd (not7 (sym is ∙ h));
-  write_line = λ h _ _. absurd (not6 (sym is ∙ h));
-  told = λ files t.
-      let k = told files t in (
-        k.0,
-        k.1,
-        record {
-          exact = λ _ _ _. (is ∙ k.2, k.3, k.4);
-          complete = λ _. inr (is ∙ k.2, k.3);
-          due = λ h _. absurd (not6 (sym is ∙ h));
-          torn = λ h. absurd (not6 (sym is ∙ h));
-          unprinted = λ h _ _. absurd (not6 (sym is ∙ h));
-        },
-      );
+listed_within : (name : List ℕ) (limit : ℕ) (what : Limited) (next : List ℕ → Plan) → ((bytes : List ℕ) → AllListed (next bytes)) → AllListed (read_within name limit what next)
+unfolding AllListed
+listed_within name limit what next h files o r =
+    listed_if (nat_lt limit (length r.0)) (answer (refuses (Limit what))) (next r.0) (listed_answer (refuses (Limit what)) (refusal_listed (Limit what))) (h r.0) files o r.2
+
+listed_judged : (fault : Option ℕ) (p : Plan) → AllListed p → AllListed (unless_faulty fault p)
+unfolding AllListed
+listed_judged None p h = h
+listed_judged (Some n) p h = λ files o is. subst IsListed (sym is) (record { status = omega arith; writes = λ _. refl })
+
+listed_program : (elf input : List ℕ) (next : List ℕ → List ℕ → Plan) → ((program given : List ℕ) → AllListed (next program given)) → AllListed (read_program elf input next)
+listed_program elf input next h =
+    listed_within elf ELF_LIMIT limited.Elf _ (λ program. listed_within input INPUT_LIMIT limited.Input _ (λ given. listed_judged (first_fault program) (next program given) (h program given)))
+
+ran_listed : (w : RunWords) (elf input : List ℕ) (ended : Option (ℕ × End)) → IsListed (ran w (image w.version elf) input ended)
+ran_listed w elf input None = refusal_listed (Budget w.budget)
+ran_listed w elf input (Some e) = success_listed _ refl
+
+made_listed : (w : MakeWords) (o : Outcome) → IsMade w o → IsListed o
+made_listed w o (inl is) = subst IsListed (sym is) (refusal_listed (Budget w.budget))
+made_listed w o (inr (inl is)) = subst IsListed (sym is) (refusal_listed NotBuilt)
+made_listed w o (inr (inr m)) = success_listed o (ap (λ p. p.status) m.4)
+
+command_listed : (c : CommandWords) → AllListed (plan_of c)
+unfolding AllListed
+command_listed (make w) =
+    listed_if (nat_lt 1 w.workers) (answer (refuses NotBuilt)) (read_program w.elf w.input (make_plan w)) (listed_answer (refuses NotBuilt) (refusal_listed NotBuilt))
+    (listed_program w.elf w.input (make_plan w) (λ program given files o is. made_listed w o is))
+command_listed (run w) =
+    listed_program w.elf w.input (run_plan w) (λ program given. listed_answer (ran w (image w.version program) given (ends_within (image w.version program) given w.budget)) (ran_listed w program given (ends_within (image w.version program) given w.budget)))
+
+pub plan_listed : (c : Option CommandWords) → AllListed (plan c)
+plan_listed None = listed_answer (refuses Words) (refusal_listed Words)
+plan_listed (Some c) = command_listed c
+
+-- ---- from the end of a plan to the promise
+
+same_files : (o : Option Files) → option_map (λ told. with_due told []) o ≡ o
+same_files None = refl
+same_files (Some files) = refl
+
+nothing_written : (s s' : ShelfView) → Leaves s s' → IsWritten [] s s'
+nothing_written s s' h = record { files = h.files ∙ sym (same_files s.files); writes = h.writes }
+
+unwritten_files : (o : Outcome) (s s' : ShelfView) → o.writes ≡ [] → IsWritten o.writes s s' → s'.files ≡ s.files
+unwritten_files o s s' none h = h.files ∙ ap (λ writes. option_map (λ told. with_due told writes) s.files) none ∙ same_files s.files
+
+ended_status : (p : Plan) → AllListed p → (s s' : ShelfView) (status : ℕ) (text : List ℕ) → Ends p s s' status text → status ≤ 9
+unfolding AllListed
+ended_status p h s s' status text (done o reached is _ _) = subst (λ n. n ≤ 9) (sym is) (h s.files o reached).status
+ended_status p h s s' status text (unread is _ _ _) = omega (arith, is)
+ended_status p h s s' status text (unwritten _ _ is _ _) = omega (arith, is)
+ended_status p h s s' status text (no_memory is _ _) = omega (arith, is)
+
+ended_files : (p : Plan) → AllListed p → (s s' : ShelfView) (status : ℕ) (text : List ℕ) → Ends p s s' status text → status ≢ 0 → status ≢ 6 → s'.files ≡ s.files
+unfolding AllListed
+ended_files p h s s' status text (done o reached is _ written) not0 not6 = unwritten_files o s s' ((h s.files o reached).writes (λ z. not0 (is ∙ z))) written
+ended_files p h s s' status text (unread _ _ _ left) not0 not6 = left.files
+ended_files p h s s' status text (unwritten _ _ is _ _) not0 not6 = absurd (not6 is)
+ended_files p h s s' status text (no_memory _ _ left) not0 not6 = left.files
+
+pub answers : (p : Plan) → AllListed p → (s s' : ShelfView) (t t' : SinkView) (status : ℕ) (text : List ℕ) (result : ℕ) → Ends p s s' status text → Prints t t' status text result → Answers p s s' t t' result
+answers p h s s' t t' status text result e (whole is gains) = record {
+  status = status;
+  text = text;
+  ended = e;
+  printed = whole is gains;
+  listed = (omega arith, subst (λ n. n ≤ 9) (sym is) (ended_status p h s s' status text e));
+  kept = λ not0 not6. ended_files p h s s' status text e (λ z. not0 (is ∙ z)) (λ z. not6 (is ∙ z));
+}
+answers p h s s' t t' status text result e (torn is rose gains) = record {
+  status = status;
+  text = text;
+  ended = e;
+  printed = torn is rose gains;
+  listed = (omega (arith, is), omega (arith, is));
+  kept = λ not0 not6. absurd (not6 is);
 }
 
--- ---- the line was not printed, and no writing failed
+-- ---- how a command ended
 
-unprinted : (c : Option CommandWords) (b a : World) (result : ℕ) → result ≡ 6 → Rose b.sink.faults a.sink.faults → ((name : List ℕ) → a.shelf.write_faults name ≡ b.shelf.write_faults name)
-    → ((files : Files) → b.shelf.files ≡ Some files → (o : Outcome) × IsOutcome files c o × IsTornBy o files c a.shelf.files
-    × (((a.shelf.files ≡ Some o.files) × GainsPrefix b.sink a.sink o.line)
-    ⊎ ((a.shelf.files ≡ Some files) × (GainsPrefix b.sink a.sink (line_of Memory) ⊎ (ReadFailed c b.shelf a.shelf × GainsPrefix b.sink a.sink (line_of Read))))))
-    → Answers c b a result
-unprinted c b a result is rose same told = record {
-  read = λ h. absurd (apart refl (sym is ∙ h));
-  write = λ _. inr rose;
-  kept = λ _ n. absurd (n is);
-  read_line = λ h. absurd (apart refl (sym is ∙ h));
-  memory_line = λ h. absurd (apart refl (sym is ∙ h));
-  write_line = λ _ below failed. absurd (unwritten c b.shelf a.shelf same below.writes failed);
-  told = λ files t.
-      let k = told files t in (
-        k.0,
-        k.1,
-        record {
-          exact = λ _ n _. absurd (n is);
-          complete = λ none. absurd (sink_rose c b a rose none);
-          due = λ _ n. absurd (n rose);
-          torn = λ _. k.2;
-          unprinted = λ _ _ _. k.3;
-        },
-      );
-}
+refused : (p : Plan) (s s' : ShelfView) (f : Fault) → Leaves s s' × Reaches s.files p (refuses f) → Ends p s s' (status_of f) (line_of f)
+refused p s s' f h = done (refuses f) h.1 refl refl (nothing_written s s' h.0)
 
--- ---- by what the command answered
+stopped : (p : Plan) (s s' : ShelfView) (f : Fault) → Stops p s s' f → Ends p s s' (status_of f) (line_of f)
+stopped p s s' Words h = refused p s s' Words h
+stopped p s s' (Elf e) h = refused p s s' (Elf e) h
+stopped p s s' (Budget n) h = refused p s s' (Budget n) h
+stopped p s s' Read h = unread refl refl h.1 h.0
+stopped p s s' Write h = unwritten h.0 h.1 refl refl h.2
+stopped p s s' Memory h = no_memory refl refl h
+stopped p s s' (Limit what) h = refused p s s' (Limit what) h
+stopped p s s' NotBuilt h = refused p s s' NotBuilt h
 
--- all that is due is written
-pub complete : (files : Files) (c : CommandWords) (o : Outcome) (after : Option Files) (bytes : List ℕ) → o.status ≡ 0 → o.files ≡ with_file files (target_of c) bytes → after ≡ Some o.files → IsTornBy o files (Some c) after
-complete files c o after bytes success is same =
-    let due : file o.files (target_of c) ≡ bytes = ap (λ fs. file fs (target_of c)) is ∙ file-with_file files (target_of c) bytes in
-    inr (success, inr (length bytes, same ∙ ap Some (is ∙ ap (with_file files (target_of c)) (sym (ap (take (length bytes)) due ∙ take-length bytes)))))
+-- a fault with a number has changed no file
+unnumbered : (p : Plan) (s s' : ShelfView) (f : Fault) → has_number f ≡ true → Stops p s s' f → Leaves s s'
+unnumbered p s s' (Elf e) n h = h.0
+unnumbered p s s' (Budget b) n h = h.0
+unnumbered p s s' Words n h = absurd (false≢true n)
+unnumbered p s s' Read n h = absurd (false≢true n)
+unnumbered p s s' Write n h = absurd (false≢true n)
+unnumbered p s s' Memory n h = absurd (false≢true n)
+unnumbered p s s' (Limit what) n h = absurd (false≢true n)
+unnumbered p s s' NotBuilt n h = absurd (false≢true n)
 
-pub done : (c : CommandWords) (s s' : Shelved) (t u : Sunk) (line : List ℕ) (result : ℕ) → Succeeds c s s' line → Prints t u 0 line result → Answers (Some c) (world s t) (world s' u) result
-done c s s' t u line result h (whole is gains) =
-    printed (Some c) (world s t) (world s' u) 0 result is (apart refl) (apart refl) (apart refl) (λ n. absurd (n refl)) (λ files told.
-    let k = h.told files told in
-    (k.0, k.1, sym k.2, k.4, subst (Gains t u) (sym k.3) gains))
-done c s s' t u line result h (torn is rose gains) =
-    unprinted (Some c) (world s t) (world s' u) result is rose h.writes (λ files told.
-    let k = h.told files told in
-    (k.0, k.1, complete files c k.0 s'.files k.5.0 k.2 k.5.1 k.4, inl (k.4, subst (GainsPrefix t u) (sym k.3) gains)))
-
--- want of memory
-without_memory : (c : Option CommandWords) (s s' : Shelved) (t u : Sunk) (result : ℕ) → Leaves s s' → Prints t u 7 (line_of Memory) result → Answers c (world s t) (world s' u) result
-without_memory c s s' t u result left (whole is gains) = record {
-  read = λ h. absurd (apart refl (sym is ∙ h));
-  write = λ h. absurd (apart refl (sym is ∙ h));
-  kept = λ _ _. left.files;
-  read_line = λ h. absurd (apart refl (sym is ∙ h));
-  memory_line = λ _. gains;
-  write_line = λ h _ _. absurd (apart refl (sym is ∙ h));
-  told = λ files told.
-      let k = some_outcome files c in (
-        k.0,
-        k.1,
-        record {
-          exact = λ _ _ n. absurd (n is);
-          complete = λ _. inl is;
-          due = λ h _. absurd (apart refl (sym is ∙ h));
-          torn = λ h. absurd (apart refl (sym is ∙ h));
-          unprinted = λ h _ _. absurd (apart refl (sym is ∙ h));
-        },
-      );
-}
-without_memory c s s' t u result left (torn is rose gains) =
-    unprinted c (world s t) (world s' u) result is rose left.writes (λ files told.
-    let k = some_outcome files c in
-    (k.0, k.1, unchanged k.0 files c s'.files (left.files ∙ told), inr (left.files ∙ told, inl gains)))
-
--- a failed read rose one of two counts
-read_rose : (c : CommandWords) (b a : World) → ReadFailed (Some c) b.shelf a.shelf → NoneRose (Some c) b a → ⊥
-read_rose c b a (inl rose) none = none.0 rose
-read_rose c b a (inr p) none = none.1 p.1
-
-unread : (c : CommandWords) (s s' : Shelved) (t u : Sunk) (result : ℕ) → Leaves s s' → ReadFailed (Some c) s s' → Prints t u 5 (line_of Read) result → Answers (Some c) (world s t) (world s' u) result
-unread c s s' t u result left failed (whole is gains) = record {
-  read = λ _. failed;
-  write = λ h. absurd (apart refl (sym is ∙ h));
-  kept = λ _ _. left.files;
-  read_line = λ _. gains;
-  memory_line = λ h. absurd (apart refl (sym is ∙ h));
-  write_line = λ h _ _. absurd (apart refl (sym is ∙ h));
-  told = λ files told.
-      let k = some_outcome files (Some c) in (
-        k.0,
-        k.1,
-        record {
-          exact = λ n _ _. absurd (n is);
-          complete = λ none. absurd (read_rose c (world s t) (world s' u) failed none);
-          due = λ h _. absurd (apart refl (sym is ∙ h));
-          torn = λ h. absurd (apart refl (sym is ∙ h));
-          unprinted = λ h _ _. absurd (apart refl (sym is ∙ h));
-        },
-      );
-}
-unread c s s' t u result left failed (torn is rose gains) =
-    unprinted (Some c) (world s t) (world s' u) result is rose left.writes (λ files told.
-    let k = some_outcome files (Some c) in
-    (k.0, k.1, unchanged k.0 files (Some c) s'.files (left.files ∙ told), inr (left.files ∙ told, inr (failed, gains))))
-
--- the line of a failed write, whole or torn
-write_printed : (t u : Sunk) (result : ℕ) → Prints t u 6 (line_of Write) result → (result ≡ 6) × (Gains t u (line_of Write) ⊎ (Rose t.faults u.faults × GainsPrefix t u (line_of Write)))
-write_printed t u result (whole is gains) = (is, inl gains)
-write_printed t u result (torn is rose gains) = (is, inr (rose, gains))
-
-unwritten_file : (c : CommandWords) (s s' : Shelved) (t u : Sunk) (result : ℕ) → Breaks c s s' → Prints t u 6 (line_of Write) result → Answers (Some c) (world s t) (world s' u) result
-unwritten_file c s s' t u result h p =
-    let q = write_printed t u result p in record {
-      read = λ e. absurd (apart refl (sym q.0 ∙ e));
-      write = λ _. inl h.failed;
-      kept = λ _ n. absurd (n q.0);
-      read_line = λ e. absurd (apart refl (sym q.0 ∙ e));
-      memory_line = λ e. absurd (apart refl (sym q.0 ∙ e));
-      write_line = λ _ _ _. q.1;
-      told = λ files told.
-          let k = h.told files told in (
-            k.0,
-            k.1,
-            record {
-              exact = λ _ n _. absurd (n q.0);
-              complete = λ none. absurd (none.2 h.failed);
-              due = λ _ _. k.2;
-              torn = λ _. inr (k.2, k.3);
-              unprinted = λ _ _ n. absurd (n h.failed);
-            },
-          );
-    }
-
--- a fault that is the outcome
-refused : (c : Option CommandWords) (s s' : Shelved) (t u : Sunk) (fault : Fault) (result : ℕ) → status_of fault ≢ 5 → status_of fault ≢ 6 → status_of fault ≢ 7 → Leaves s s'
-    → ((files : Files) → s.files ≡ Some files → IsOutcome files c (refuses files fault)) → PrintsFault t u fault result → Answers c (world s t) (world s' u) result
-refused c s s' t u fault result not5 not6 not7 left is (inl (whole e gains)) =
-    printed c (world s t) (world s' u) (status_of fault) result e not5 not6 not7 (λ _. left.files) (λ files told. (refuses files fault, is files told, refl, left.files ∙ told, gains))
-refused c s s' t u fault result not5 not6 not7 left is (inl (torn e rose gains)) =
-    unprinted c (world s t) (world s' u) result e rose left.writes (λ files told. (refuses files fault, is files told, unchanged (refuses files fault) files c s'.files (left.files ∙ told), inl (left.files ∙ told, gains)))
-refused c s s' t u fault result not5 not6 not7 left is (inr p) = without_memory c s s' t u result left p.1
-
-stopped : (c : CommandWords) (s s' : Shelved) (t u : Sunk) (fault : Fault) (result : ℕ) → Performs c s s' (Err fault) → PrintsFault t u fault result → Answers (Some c) (world s t) (world s' u) result
-stopped c s s' t u Words result h p = absurd h
-stopped c s s' t u (Elf e) result h p = refused (Some c) s s' t u (Elf e) result (apart refl) (apart refl) (apart refl) h.0 h.1 p
-stopped c s s' t u (Budget n) result h p = refused (Some c) s s' t u (Budget n) result (apart refl) (apart refl) (apart refl) h.0 h.1 p
-stopped c s s' t u (Limit w) result h p = refused (Some c) s s' t u (Limit w) result (apart refl) (apart refl) (apart refl) h.0 h.1 p
-stopped c s s' t u NotBuilt result h p = refused (Some c) s s' t u NotBuilt result (apart refl) (apart refl) (apart refl) h.0 h.1 p
-stopped c s s' t u Memory result h (inl p) = without_memory (Some c) s s' t u result h p
-stopped c s s' t u Read result h (inl p) = unread c s s' t u result h.0 h.1 p
-stopped c s s' t u Write result h (inl p) = unwritten_file c s s' t u result h p
-stopped c s s' t u Memory result h (inr p) = absurd (false≢true p.0)
-stopped c s s' t u Read result h (inr p) = absurd (false≢true p.0)
-stopped c s s' t u Write result h (inr p) = absurd (false≢true p.0)
+pub fault_answers : (p : Plan) → AllListed p → (s s' : ShelfView) (t t' : SinkView) (f : Fault) (result : ℕ) → Stops p s s' f → PrintsFault t t' f result → Answers p s s' t t' result
+fault_answers p h s s' t t' f result stops (inl printed) = answers p h s s' t t' (status_of f) (line_of f) result (stopped p s s' f stops) printed
+fault_answers p h s s' t t' f result stops (inr (numbered, printed)) = answers p h s s' t t' 7 (line_of Memory) result (no_memory refl refl (unnumbered p s s' f numbered stops)) printed
 
 -- ---- for the top call
 
-pub words_refused : (s : Shelved) (t u : Sunk) (c : Option CommandWords) (result : ℕ) → c ≡ None → PrintsFault t u Words result → Answers c (world s t) (world s u) result
-words_refused s t u c result none p =
-    refused c s s t u Words result (apart refl) (apart refl) (apart refl) (record { files = refl; writes = λ _. refl }) (λ files _. subst (λ k. IsOutcome files k (refuses files Words)) (sym none) refl) p
+pub words_refused : (c : Option CommandWords) (s : ShelfView) (t t' : SinkView) (result : ℕ) → c ≡ None → PrintsFault t t' Words result → Answers (plan c) s s t t' result
+words_refused c s t t' result none printed =
+    subst (λ c. Answers (plan c) s s t t' result) (sym none) (fault_answers (plan None) (plan_listed None) s s t t' Words result (record { files = refl; writes = λ _. refl }, refl) printed)
 
-pub command_done : (s s' : Shelved) (t u : Sunk) (c : Option CommandWords) (w : CommandWords) (line : List ℕ) (result : ℕ) → c ≡ Some w → Performs w s s' (Ok line) → Prints t u 0 line result → Answers c (world s t) (world s' u) result
-command_done s s' t u c w line result is h p = subst (λ k. Answers k (world s t) (world s' u) result) (sym is) (done w s s' t u line result h p)
+pub command_done : (c : Option CommandWords) (w : CommandWords) (s s' : ShelfView) (t t' : SinkView) (told : Told) (result : ℕ) → c ≡ Some w → Performs (plan_of w) s s' (Ok told) → Prints t t' told.status told.text result → Answers (plan c) s s' t t' result
+command_done c w s s' t t' told result is h printed =
+    subst (λ c. Answers (plan c) s s' t t' result) (sym is) (answers (plan_of w) (plan_listed (Some w)) s s' t t' told.status told.text result (done h.0 h.1 h.2 h.3 h.4) printed)
 
-pub command_stopped : (s s' : Shelved) (t u : Sunk) (c : Option CommandWords) (w : CommandWords) (fault : Fault) (result : ℕ) → c ≡ Some w → Performs w s s' (Err fault) → PrintsFault t u fault result → Answers c (world s t) (world s' u) result
-command_stopped s s' t u c w fault result is h p = subst (λ k. Answers k (world s t) (world s' u) result) (sym is) (stopped w s s' t u fault result h p)
+pub command_stopped : (c : Option CommandWords) (w : CommandWords) (s s' : ShelfView) (t t' : SinkView) (f : Fault) (result : ℕ) → c ≡ Some w → Performs (plan_of w) s s' (Err f) → PrintsFault t t' f result → Answers (plan c) s s' t t' result
+command_stopped c w s s' t t' f result is h printed =
+    subst (λ c. Answers (plan c) s s' t t' result) (sym is) (fault_answers (plan_of w) (plan_listed (Some w)) s s' t t' f result h printed)

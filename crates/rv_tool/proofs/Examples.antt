@@ -5,9 +5,9 @@ use Rattle.rv_elf.specs.ElfFile.{elf_file}
 use Rattle.rv_spec.specs.Record.{record_file}
 use Rattle.rv_spec.proofs.Computes.{computes}
 use Rattle.rv_spec.proofs.RecordExample.{elf}
-use Rattle.rv_host.specs.Files.{Files, with_file}
+use Rattle.rv_host.specs.Files.{Files}
 use Rattle.rv_tool.specs.Lines.{made_line, ran_line}
-use Rattle.rv_tool.specs.Outcome.{outcome, refusal, refuses, ends_within}
+use Rattle.rv_tool.specs.Outcome.{outcome, refuses, ends_within}
 use Rattle.rv_tool.specs.declared.faults.Fault.TheVariants.{Words, Budget}
 
 abbrev shelf : List ℕ → Files
@@ -17,15 +17,15 @@ abbrev make_within : List ℕ → List (List ℕ)
 make_within budget = codes "make" ∷ codes "elf" ∷ codes "input" ∷ codes "record" ∷ codes "1" ∷ codes "3" ∷ budget ∷ []
 
 made : outcome (make_within (codes "3")) (shelf elf)
-    ≡ record { status = 0; line = made_line 3 1 (record { kind = 0; code = 42 }) 719; files = with_file (shelf elf) (codes "record") (record_file sha_lanes 1 elf [] 3 3 (record { kind = 0; code = 42 })) }
-unfolding computes elf_file outcome refusal ends_within
+    ≡ record { status = 0; text = made_line 3 1 (record { kind = 0; code = 42 }) 719; writes = (codes "record", record_file sha_lanes 1 elf [] 3 3 (record { kind = 0; code = 42 })) ∷ [] }
+unfolding computes elf_file outcome ends_within
 made = refl
 
-over_budget : outcome (make_within (codes "2")) (shelf elf) ≡ refuses (shelf elf) (Budget 2)
-unfolding computes elf_file outcome refusal ends_within
+over_budget : outcome (make_within (codes "2")) (shelf elf) ≡ refuses (Budget 2)
+unfolding computes elf_file outcome ends_within
 over_budget = refl
 
-misspelled : outcome (make_within (codes "03")) (shelf elf) ≡ refuses (shelf elf) Words
+misspelled : outcome (make_within (codes "03")) (shelf elf) ≡ refuses Words
 unfolding outcome
 misspelled = refl
 
@@ -40,6 +40,6 @@ abbrev greeter : List ℕ
 greeter = elf_file 0x10000 (record { address = 0x10000; bytes = greeting; size = 35 } ∷ [])
 
 ran : outcome (codes "run" ∷ codes "elf" ∷ codes "input" ∷ codes "output" ∷ codes "100" ∷ []) (shelf greeter)
-    ≡ record { status = 0; line = ran_line 8 (record { kind = 0; code = 3 }) 3; files = with_file (shelf greeter) (codes "output") (codes "hi" ++ 10 ∷ []) }
-unfolding computes elf_file outcome refusal ends_within
+    ≡ record { status = 0; text = ran_line 8 (record { kind = 0; code = 3 }) 3; writes = (codes "output", codes "hi" ++ 10 ∷ []) ∷ [] }
+unfolding computes elf_file outcome ends_within
 ran = refl

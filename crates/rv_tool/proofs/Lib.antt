@@ -1,7 +1,7 @@
 pub mod Answering
 pub mod Arguments
 pub mod Fronts
-pub mod Loads
+pub mod Plans
 pub mod Parts
 pub mod Running
 pub mod Examples

@@ -73,23 +73,6 @@ command (name ∷ arguments) =
     else (if bytes_eq name (codes "run2") then run_of 2 arguments
     else None))
 
--- ---- what a command uses
-
--- the name of the ELF file
-abbrev pub elf_of : CommandWords → List ℕ
-elf_of (make w) = w.elf
-elf_of (run w) = w.elf
-
--- the name of the input
-abbrev pub input_of : CommandWords → List ℕ
-input_of (make w) = w.input
-input_of (run w) = w.input
-
--- the name of the file that is written
-abbrev pub target_of : CommandWords → List ℕ
-target_of (make w) = w.target
-target_of (run w) = w.target
-
 -- a command that is given more than one worker
 abbrev pub is_teamwork : Option CommandWords → Bool
 is_teamwork (Some (make w)) = nat_lt 1 w.workers

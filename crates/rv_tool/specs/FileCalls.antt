@@ -1,20 +1,28 @@
 -- What reading and writing whole files leaves on a shelf, by what it answers.
-use Rattle.std.specs.Prelude.{◌≡◌, ℕ, ◌+◌, ◌<◌, ◌≤◌, List, length, take, Vec, vec_len, Some, Result, Ok, Err}
+use Rattle.std.specs.Prelude.{◌≡◌, ◌⊎◌, ℕ, ◌+◌, ◌<◌, ◌≤◌, List, [], ◌∷◌, length, take, Vec, vec_len, Some, Result, Ok, Err}
 use Rattle.std.specs.declared.alloc.Global.{Global}
-use Rattle.std.specs.Option.{option_map}
+use Rattle.std.specs.List.{flat_map}
 use Rattle.rv_base.specs.declared.limits.TheConstants.{ELF_LIMIT, INPUT_LIMIT}
 use Rattle.rv_host.specs.Counts.{Rose}
-use Rattle.rv_host.specs.Files.{Files, file, with_file}
-use Rattle.rv_tool.specs.Outcome.{refuses, refusal}
-use Rattle.rv_tool.specs.Shelves.{Shelved, Leaves, IsUnchanged}
-use Rattle.rv_tool.specs.Promised.{ReadFailedOf, IsTorn}
+use Rattle.rv_host.specs.Files.{Files, file}
+use Rattle.rv_host.specs.Views.{ShelfView}
+use Rattle.rv_tool.specs.Outcome.{Due, Outcome, Plan, read_program, refuses}
+use Rattle.rv_tool.specs.Endings.{IsContents, IsTorn, IsWritten, Leaves, ReadFails, Reaches, WriteFails}
 use Rattle.rv_tool.specs.declared.faults.Fault.{Fault}
 use Rattle.rv_tool.specs.declared.faults.Limited.{Limited}
 use Rattle.rv_tool.specs.declared.loading.Loaded.{Loaded}
-use Rattle.rv_tool.specs.declared.faults.Fault.TheVariants.{Read, Write, Memory, Limit}
+use Rattle.rv_tool.specs.declared.faults.Fault.TheVariants.{Budget, Read, Write, Memory, Limit, NotBuilt}
+use Rattle.rv_tool.specs.declared.told.Told.{Told}
+use Rattle.rv_tool.specs.declared.writing.DueFile.{DueFile}
+
+-- files and counts are as they were
+pub record IsUnchanged (before after : ShelfView) : Type 0 where
+  pub files : after.files ≡ before.files
+  pub reads : (name : List ℕ) → after.read_faults name ≡ before.read_faults name
+  pub writes : (name : List ℕ) → after.write_faults name ≡ before.write_faults name
 
 -- A file is read up to one byte past a limit.
-abbrev pub ReadsUpTo : List ℕ → ℕ → Shelved → Shelved → Result (Vec ℕ Global) Fault → Type 0
+abbrev pub ReadsUpTo : List ℕ → ℕ → ShelfView → ShelfView → Result (Vec ℕ Global) Fault → Type 0
 ReadsUpTo name limit before after (Ok bytes) =
     IsUnchanged before after × (vec_len bytes ≤ limit + 1) × ((told : Files) → before.files ≡ Some told → bytes.items ≡ take (limit + 1) (file told name))
 ReadsUpTo name limit before after (Err Read) = Leaves before after × Rose (before.read_faults name) (after.read_faults name)
@@ -22,30 +30,50 @@ ReadsUpTo name limit before after (Err Memory) = Leaves before after
 ReadsUpTo name limit before after (Err _) = ⊥
 
 -- A file is read whole, where it is within a limit.
-abbrev pub ReadsWithin : List ℕ → ℕ → Limited → Shelved → Shelved → Result (List ℕ) Fault → Type 0
-ReadsWithin name limit what before after (Ok bytes) =
-    IsUnchanged before after × (length bytes ≤ limit) × ((told : Files) → before.files ≡ Some told → bytes ≡ file told name)
+abbrev pub ReadsWithin : List ℕ → ℕ → Limited → ShelfView → ShelfView → Result (List ℕ) Fault → Type 0
+ReadsWithin name limit what before after (Ok bytes) = IsUnchanged before after × (length bytes ≤ limit) × IsContents before.files name bytes
 ReadsWithin name limit what before after (Err Read) = Leaves before after × Rose (before.read_faults name) (after.read_faults name)
 ReadsWithin name limit what before after (Err Memory) = Leaves before after
 ReadsWithin name limit what before after (Err (Limit over)) =
-    IsUnchanged before after × (over ≡ what) × ((told : Files) → before.files ≡ Some told → limit < length (file told name))
+    IsUnchanged before after × (over ≡ what) × ((contents : List ℕ) × (limit < length contents) × IsContents before.files name contents)
 ReadsWithin name limit what before after (Err _) = ⊥
 
--- A program and its input are read whole, or refused.
-abbrev pub Loads : List ℕ → List ℕ → Shelved → Shelved → Result Loaded Fault → Type 0
+-- A plan stops for a fault.
+abbrev pub Stops : Plan → ShelfView → ShelfView → Fault → Type 0
+Stops plan before after Read = Leaves before after × ReadFails before after plan
+Stops plan before after Memory = Leaves before after
+Stops plan before after Write = (o : Outcome) × Reaches before.files plan o × WriteFails o.writes before after
+Stops plan before after fault = Leaves before after × Reaches before.files plan (refuses fault)
+
+-- A program and its input are read whole, or a plan that reads them stops, however it goes on.
+abbrev pub Loads : List ℕ → List ℕ → ShelfView → ShelfView → Result Loaded Fault → Type 0
 Loads elf input before after (Ok loaded) =
     IsUnchanged before after × (length loaded.elf ≤ ELF_LIMIT) × (length loaded.input ≤ INPUT_LIMIT)
-    × ((told : Files) → before.files ≡ Some told → (loaded.elf ≡ file told elf) × (loaded.input ≡ file told input))
-Loads elf input before after (Err Read) = Leaves before after × ReadFailedOf elf input before after
-Loads elf input before after (Err Memory) = Leaves before after
-Loads elf input before after (Err (Limit what)) =
-    Leaves before after × ((told : Files) → before.files ≡ Some told → refusal told elf input ≡ Some (refuses told (Limit what)))
-Loads elf input before after (Err _) = ⊥
+    × IsContents before.files elf loaded.elf × IsContents before.files input loaded.input
+Loads elf input before after (Err fault) = (next : List ℕ → List ℕ → Plan) → Stops (read_program elf input next) before after fault
 
--- A file is made of some bytes, or has a prefix of them.
-abbrev pub Writes : List ℕ → List ℕ → Shelved → Shelved → Result Unit Fault → Type 0
-Writes name bytes before after (Ok _) =
-    ((any : List ℕ) → after.write_faults any ≡ before.write_faults any) × (after.files ≡ option_map (λ told. with_file told name bytes) before.files)
-Writes name bytes before after (Err fault) =
+-- A file is made of some bytes, or is torn.
+abbrev pub WritesFile : List ℕ → List ℕ → ShelfView → ShelfView → Result Unit Fault → Type 0
+WritesFile name bytes before after (Ok _) = IsWritten ((name, bytes) ∷ []) before after
+WritesFile name bytes before after (Err fault) =
     (fault ≡ Write) × Rose (before.write_faults name) (after.write_faults name)
     × ((told : Files) → before.files ≡ Some told → IsTorn told name bytes after.files)
+
+-- the files of a list that are due, whose bytes come in parts
+abbrev pub due_of : DueFile → Due
+due_of file = (file.name.now, flat_map (λ part. part.now) file.parts.now)
+
+-- All files that are due are written, or writing failed at one.
+abbrev pub Writes : List Due → ShelfView → ShelfView → Result Unit Fault → Type 0
+Writes writes before after (Ok _) = IsWritten writes before after
+Writes writes before after (Err fault) = (fault ≡ Write) × WriteFails writes before after
+
+-- A command ends as its plan says.
+abbrev pub Performs : Plan → ShelfView → ShelfView → Result Told Fault → Type 0
+Performs plan before after (Ok told) =
+    (o : Outcome) × Reaches before.files plan o × (told.status ≡ o.status) × (told.text ≡ o.text) × IsWritten o.writes before after
+Performs plan before after (Err fault) = Stops plan before after fault
+
+-- what the scaffold of make stops with
+abbrev pub IsStop : ℕ → Fault → Type 0
+IsStop budget fault = (fault ≡ Budget budget) ⊎ ((fault ≡ NotBuilt) ⊎ (fault ≡ Memory))

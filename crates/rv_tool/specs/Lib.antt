@@ -1,10 +1,8 @@
 pub mod Answers
 pub mod CommandLine
 pub mod Commands
-pub mod Faults
+pub mod Endings
 pub mod FileCalls
+pub mod Faults
 pub mod Lines
 pub mod Outcome
-pub mod Performance
-pub mod Promised
-pub mod Shelves

@@ -5,7 +5,6 @@ ghost use Rattle.std.specs.Int.{IsInRange};
 ghost use Rattle.rv_spec.specs.Elf.{first_fault, image};
 ghost use Rattle.rv_elf.specs.Faults.{number_of};
 ghost use Rattle.rv_elf.specs.declared.fault.ElfFault.{ElfFault as SomeFault};
-ghost use Rattle.rv_tool.specs.Shelves.{shelved};
 ghost use Rattle.rv_tool.specs.FileCalls.{Loads, ReadsUpTo, ReadsWithin};
 ghost use Rattle.rv_tool.specs.declared.faults.Fault.TheVariants as fault;
 
@@ -28,7 +27,7 @@ pub struct Loaded {
 
 /// Reads a program and its input: the ELF file is held to its limit before the input is read.
 pub fn load<S: Shelf>(alloc: Global, shelf: &mut S, elf: &str, input: &str) -> Result<Loaded, Fault>
-    ensures { Loads elf.now input.now (shelved S.files S.read_faults S.write_faults shelf.old) (shelved S.files S.read_faults S.write_faults shelf.new) result }
+    ensures { Loads elf.now input.now (S.view shelf.old) (S.view shelf.new) result }
 {
     let elf = read_within(alloc, shelf, elf, ELF_LIMIT, Limited::Elf)?;
     let input = read_within(alloc, shelf, input, INPUT_LIMIT, Limited::Input)?;
@@ -44,7 +43,7 @@ fn read_within<S: Shelf>(
     what: Limited,
 ) -> Result<Bytes, Fault>
     requires { limit < 2 ^ 32 }
-    ensures { ReadsWithin name.now limit what (shelved S.files S.read_faults S.write_faults shelf.old) (shelved S.files S.read_faults S.write_faults shelf.new) result }
+    ensures { ReadsWithin name.now limit what (S.view shelf.old) (S.view shelf.new) result }
 {
     let bytes = read_whole(alloc, shelf, name, limit)?;
     if bytes.len() > limit {
@@ -61,7 +60,7 @@ fn read_whole<S: Shelf>(
     limit: usize,
 ) -> Result<Vec<u8>, Fault>
     requires { limit < 2 ^ 32 }
-    ensures { ReadsUpTo name.now limit (shelved S.files S.read_faults S.write_faults shelf.old) (shelved S.files S.read_faults S.write_faults shelf.new) result }
+    ensures { ReadsUpTo name.now limit (S.view shelf.old) (S.view shelf.new) result }
 {
     let Ok(mut piece) = vec![in alloc; 0u8; PIECE] else {
         return Err(Fault::Memory);

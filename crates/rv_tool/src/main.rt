@@ -10,6 +10,7 @@ mod run;
 mod scaffold;
 #[cfg(test)]
 mod tests;
+mod told;
 mod top;
 mod writing;
 

@@ -2,24 +2,25 @@
 
 ghost use Rattle.std.specs.Prelude.{◌≡◌, IfOk, IfSome, length as length_of};
 ghost use Rattle.std.specs.List.{flat_map};
-ghost use Rattle.rv_tool.specs.Commands.{words_of};
+ghost use Rattle.rv_tool.specs.CommandLine as command;
+ghost use Rattle.rv_tool.specs.Commands.{make_words};
+ghost use Rattle.rv_tool.specs.FileCalls.{Performs};
+ghost use Rattle.rv_tool.specs.Outcome.{plan_of};
 ghost use Rattle.rv_tool.specs.Lines.{made_line as made_line_of};
-ghost use Rattle.rv_tool.specs.Shelves.{shelved};
-ghost use Rattle.rv_tool.specs.Performance.{Performs};
-ghost use Rattle.rv_tool.specs.declared.commands.Command.TheVariants as command;
 
 use crate::commands::Make;
 use crate::faults::Fault;
 use crate::loading::{image_of, load};
 use crate::scaffold::record;
-use crate::writing::write_parts;
+use crate::told::Told;
+use crate::writing::{DueFile, write_files};
 use rv_base::{End, NoMemory, Text};
 use rv_host::Shelf;
 use std::alloc::Global;
 
-/// Makes the record, writes it to its file, and gives the line that tells of it. All memory is taken before the file is touched.
-pub fn make<S: Shelf>(alloc: Global, words: &Make<'_>, shelf: &mut S) -> Result<Text, Fault>
-    ensures { Performs (words_of (command.Make words.now)) (shelved S.files S.read_faults S.write_faults shelf.old) (shelved S.files S.read_faults S.write_faults shelf.new) result }
+/// Makes the record, writes it to its file, and tells of it. All memory is taken before the file is touched.
+pub fn make<S: Shelf>(alloc: Global, words: &Make<'_>, shelf: &mut S) -> Result<Told, Fault>
+    ensures { Performs (plan_of (command.make (make_words words.now))) (S.view shelf.old) (S.view shelf.new) result }
 {
     if words.workers > 1 {
         return Err(Fault::NotBuilt);
@@ -43,11 +44,15 @@ pub fn make<S: Shelf>(alloc: Global, words: &Make<'_>, shelf: &mut S) -> Result<
     let Some(bytes) = length(&parts) else {
         return Err(Fault::Memory);
     };
-    let Ok(line) = made_line(alloc, recorded.steps, 1, recorded.end, bytes) else {
+    let Ok(text) = made_line(alloc, recorded.steps, 1, recorded.end, bytes) else {
         return Err(Fault::Memory);
     };
-    write_parts(shelf, words.record, &parts)?;
-    Ok(line)
+    let file = DueFile {
+        name: words.record,
+        parts: &parts,
+    };
+    write_files(shelf, &[file])?;
+    Ok(Told { status: 0, text })
 }
 
 /// The number of bytes of all parts, where it is below 2^64.

@@ -1,11 +1,11 @@
 //! `run` and `run2`: run a program and write its output.
 
 ghost use Rattle.std.specs.Prelude.{IfOk, IfErr, ◌≡◌};
-ghost use Rattle.rv_tool.specs.Commands.{words_of};
-ghost use Rattle.rv_tool.specs.Shelves.{shelved};
-ghost use Rattle.rv_tool.specs.Performance.{Performs};
+ghost use Rattle.rv_tool.specs.CommandLine as command;
+ghost use Rattle.rv_tool.specs.Commands.{run_words};
+ghost use Rattle.rv_tool.specs.FileCalls.{Performs};
+ghost use Rattle.rv_tool.specs.Outcome.{plan_of};
 ghost use Rattle.rv_tool.specs.Lines.{ran_line as ran_line_of};
-ghost use Rattle.rv_tool.specs.declared.commands.Command.TheVariants as command;
 ghost use Rattle.std.specs.Int.{IsInRange};
 ghost use Rattle.rv_spec.specs.Run.{GoesOn};
 ghost use Rattle.rv_isa.specs.Machine.{IsRunOf};
@@ -14,18 +14,19 @@ ghost use Rattle.rv_isa.specs.declared.machine.RunStop.TheVariants as stops;
 use crate::commands::Run;
 use crate::faults::Fault;
 use crate::loading::{image_of, load};
-use crate::writing::write_parts;
+use crate::told::Told;
+use crate::writing::{DueFile, write_files};
 use rv_base::{End, NoMemory, Text};
 use rv_elf::Image;
 use rv_host::Shelf;
 use rv_isa::{Machine, Ran, RunStop};
 use std::alloc::Global;
 
-/// Runs the program, writes its output to a file, and gives the line that tells of it. All memory is taken before the file is touched.
-pub fn run<S: Shelf>(alloc: Global, words: &Run<'_>, shelf: &mut S) -> Result<Text, Fault>
+/// Runs the program, writes its output to a file, and tells of it. All memory is taken before the file is touched.
+pub fn run<S: Shelf>(alloc: Global, words: &Run<'_>, shelf: &mut S) -> Result<Told, Fault>
     requires version { IsInRange 1 2 words.now.version }
     requires budget { IsInRange 1 8388608 words.now.budget }
-    ensures { Performs (words_of (command.Run words.now)) (shelved S.files S.read_faults S.write_faults shelf.old) (shelved S.files S.read_faults S.write_faults shelf.new) result }
+    ensures { Performs (plan_of (command.run (run_words words.now))) (S.view shelf.old) (S.view shelf.new) result }
 {
     let loaded = load(alloc, shelf, words.elf, words.input)?;
     let image = image_of(loaded.elf.list(), words.version)?;
@@ -35,11 +36,15 @@ pub fn run<S: Shelf>(alloc: Global, words: &Run<'_>, shelf: &mut S) -> Result<Te
         Err(RunStop::NoMemory) => return Err(Fault::Memory),
     };
     let output = ran.output.list();
-    let Ok(line) = ran_line(alloc, ran.steps, ran.end, output.len()) else {
+    let Ok(text) = ran_line(alloc, ran.steps, ran.end, output.len()) else {
         return Err(Fault::Memory);
     };
-    write_parts(shelf, words.output, &[output])?;
-    Ok(line)
+    let file = DueFile {
+        name: words.output,
+        parts: &[output],
+    };
+    write_files(shelf, &[file])?;
+    Ok(Told { status: 0, text })
 }
 
 /// Runs a program on an input. Budget comes exactly where the run doesn't end within so many steps.

@@ -2,7 +2,7 @@
 //! run and the replay of its shards are there, and keeps nothing that these don't replace.
 
 ghost use Rattle.std.specs.Prelude.{◌≡◌, ◌<◌, ◌≤◌, ◌^◌, ◌+◌, IsTrue, IfErr, IfOk, OnOk};
-ghost use Rattle.rv_tool.specs.Performance.{IsStop};
+ghost use Rattle.rv_tool.specs.FileCalls.{IsStop};
 ghost use Rattle.arrayvec.specs.ArrayVec.{array_vec_len};
 ghost use Rattle.rv_spec.specs.Cells.{is_cell};
 

@@ -1,17 +1,18 @@
 //! The top call: a command line is read, its command is run, and one line tells how it ended.
 
 ghost use Rattle.std.specs.Prelude.{◌≡◌, false, map, string_bytes, IsTrue};
-ghost use Rattle.rv_tool.specs.Answers.{Answers, Prints, PrintsFault, sunk, world};
+ghost use Rattle.rv_tool.specs.Answers.{Answers, Prints, PrintsFault};
 ghost use Rattle.rv_tool.specs.CommandLine.{command, is_teamwork};
 ghost use Rattle.rv_tool.specs.Commands.{words_of, HasRanges};
-ghost use Rattle.rv_tool.specs.Shelves.{shelved};
-ghost use Rattle.rv_tool.specs.Performance.{Performs};
+ghost use Rattle.rv_tool.specs.FileCalls.{Performs};
+ghost use Rattle.rv_tool.specs.Outcome.{plan, plan_of};
 
 use crate::commands::{Command, parse};
 use crate::faults::Fault;
 use crate::make::make;
 use crate::run::run;
-use rv_base::{NoMemory, Text};
+use crate::told::Told;
+use rv_base::NoMemory;
 use rv_host::{Gate, Shelf, Sink};
 use std::alloc::Global;
 use std::sync::Wait;
@@ -48,7 +49,7 @@ pub fn tool<R: Threads + Wait, S: Shelf, K: Sink, G: Gate>(
     out: &mut K,
     _gate: &G,
 ) -> u8
-    ensures { Answers (command (map string_bytes words.now)) (world (shelved S.files S.read_faults S.write_faults shelf.old) (sunk K.written K.faults out.old)) (world (shelved S.files S.read_faults S.write_faults shelf.new) (sunk K.written K.faults out.new)) result }
+    ensures { Answers (plan (command (map string_bytes words.now))) (S.view shelf.old) (S.view shelf.new) (K.view out.old) (K.view out.new) result }
 {
     answer(alloc, words, shelf, out)
 }
@@ -61,27 +62,27 @@ pub fn tool_one<S: Shelf, K: Sink>(
     out: &mut K,
 ) -> u8
     requires alone { is_teamwork (command (map string_bytes words.now)) ≡ false }
-    ensures { Answers (command (map string_bytes words.now)) (world (shelved S.files S.read_faults S.write_faults shelf.old) (sunk K.written K.faults out.old)) (world (shelved S.files S.read_faults S.write_faults shelf.new) (sunk K.written K.faults out.new)) result }
+    ensures { Answers (plan (command (map string_bytes words.now))) (S.view shelf.old) (S.view shelf.new) (K.view out.old) (K.view out.new) result }
 {
     answer(alloc, words, shelf, out)
 }
 
 fn answer<S: Shelf, K: Sink>(alloc: Global, words: &[String], shelf: &mut S, out: &mut K) -> u8
-    ensures { Answers (command (map string_bytes words.now)) (world (shelved S.files S.read_faults S.write_faults shelf.old) (sunk K.written K.faults out.old)) (world (shelved S.files S.read_faults S.write_faults shelf.new) (sunk K.written K.faults out.new)) result }
+    ensures { Answers (plan (command (map string_bytes words.now))) (S.view shelf.old) (S.view shelf.new) (K.view out.old) (K.view out.new) result }
 {
     let Some(asked) = parse(words) else {
         return print_fault(alloc, out, Fault::Words);
     };
     match perform(alloc, &asked, shelf) {
-        Ok(line) => print(out, 0, line.text()),
+        Ok(told) => print(out, told.status, told.text.text()),
         Err(fault) => print_fault(alloc, out, fault),
     }
 }
 
-/// Does the work of a command, and gives the line that tells of it.
-fn perform<S: Shelf>(alloc: Global, asked: &Command<'_>, shelf: &mut S) -> Result<Text, Fault>
+/// Does the work of a command, and tells of it.
+fn perform<S: Shelf>(alloc: Global, asked: &Command<'_>, shelf: &mut S) -> Result<Told, Fault>
     requires { HasRanges asked.now }
-    ensures { Performs (words_of asked.now) (shelved S.files S.read_faults S.write_faults shelf.old) (shelved S.files S.read_faults S.write_faults shelf.new) result }
+    ensures { Performs (plan_of (words_of asked.now)) (S.view shelf.old) (S.view shelf.new) result }
 {
     match asked {
         Command::Make(words) => make(alloc, words, shelf),
@@ -90,7 +91,7 @@ fn perform<S: Shelf>(alloc: Global, asked: &Command<'_>, shelf: &mut S) -> Resul
 }
 
 fn print_fault<K: Sink>(alloc: Global, out: &mut K, fault: Fault) -> u8
-    ensures { PrintsFault (sunk K.written K.faults out.old) (sunk K.written K.faults out.new) fault result }
+    ensures { PrintsFault (K.view out.old) (K.view out.new) fault result }
 {
     if let Some(line) = fault.fixed_line() {
         return print(out, fault.status(), line);
@@ -103,7 +104,7 @@ fn print_fault<K: Sink>(alloc: Global, out: &mut K, fault: Fault) -> u8
 
 /// Puts the line by one call. Where that fails, nothing more is printed and the status is that of a failed write.
 fn print<K: Sink>(out: &mut K, status: u8, line: &str) -> u8
-    ensures { Prints (sunk K.written K.faults out.old) (sunk K.written K.faults out.new) status line.now result }
+    ensures { Prints (K.view out.old) (K.view out.new) status line.now result }
 {
     match out.put(line.as_bytes()) {
         Ok(()) => status,

@@ -6,10 +6,10 @@ abbrev pub invariant-loop-bytes : goal.invariant-loop-bytes
 invariant-loop-bytes g l = record {
   room : vec_len l.bytes ≤ l.fn.limit + 1;
   piece : vec_len l.piece ≡ 65536;
-  files : g.S.Shelf.files l.shelf ≡ g.S.Shelf.files l.fn.shelf;
-  reads : (any : List ℕ) → g.S.Shelf.read_faults l.shelf any ≡ g.S.Shelf.read_faults l.fn.shelf any;
-  writes : (any : List ℕ) → g.S.Shelf.write_faults l.shelf any ≡ g.S.Shelf.write_faults l.fn.shelf any;
-  front : (told : Files) → g.S.Shelf.files l.fn.shelf ≡ Some told → l.bytes.items ≡ take (length l.bytes.items) (file told l.fn.name);
+  files : (g.S.Shelf.view l.shelf).files ≡ (g.S.Shelf.view l.fn.shelf).files;
+  reads : (any : List ℕ) → (g.S.Shelf.view l.shelf).read_faults any ≡ (g.S.Shelf.view l.fn.shelf).read_faults any;
+  writes : (any : List ℕ) → (g.S.Shelf.view l.shelf).write_faults any ≡ (g.S.Shelf.view l.fn.shelf).write_faults any;
+  front : (told : Files) → (g.S.Shelf.view l.fn.shelf).files ≡ Some told → l.bytes.items ≡ take (length l.bytes.items) (file told l.fn.name);
 }
 
 abbrev pub decreases-loop-bytes : goal.decreases-loop-bytes

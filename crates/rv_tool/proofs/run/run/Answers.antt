@@ -1,45 +1,59 @@
-use Rattle.std.proofs.Common.{◌≡◌, List, ℕ, refl, ◌∙◌, ap, subst, Some, None, Ok, Err, length, [], ◌++◌}
+use Rattle.std.proofs.Common.{◌≡◌, List, ℕ, refl, ◌∙◌, ap, subst, Some, None, [], ◌++◌, sym, append-nil, length}
 use Rattle.rv_elf.specs.Faults.{number_of}
 use Rattle.rv_elf.specs.declared.fault.ElfFault.{ElfFault}
 use Rattle.rv_spec.specs.Elf.{first_fault, image}
 use Rattle.rv_spec.specs.Run.{GoesOn}
-use Rattle.rv_tool.specs.Commands.{words_of}
-use Rattle.rv_tool.specs.declared.commands.Command.TheVariants as command
+use Rattle.rv_tool.specs.Commands.{run_words}
+use Rattle.rv_tool.specs.CommandLine.{run}
 use Rattle.rv_tool.specs.declared.faults.Fault.TheVariants.{Elf}
 use Rattle.rv_tool.specs.Lines.{ran_line}
-use Rattle.rv_tool.specs.Shelves.{shelved}
-use Rattle.rv_tool.specs.FileCalls.{Writes}
-use Rattle.rv_tool.proofs.Running.{handed_on, image_refused, run_over_budget, run_succeeds, run_breaks, as_run}
+use Rattle.rv_tool.specs.Outcome.{plan_of, run_plan}
+use Rattle.rv_tool.proofs.Plans.{handed_on, image_refused}
+use Rattle.rv_tool.proofs.Running.{as_run, performs_done, performs_torn, run_outcome, run_over_budget, run_reaches}
 use Rattle.rv_tool.proofs.run.run.Goals as goal
+
+pub returns-in_err-loaded : goal.returns-in_err-loaded
+returns-in_err-loaded g c =
+    rw (handed_on c.from_residual.result c.in_err-loaded.field-0.0 c.from_residual.ensures.1) (c.in_err-loaded.ensures (run_plan (run_words c.args.words.now)))
 
 pub returns-in_err-image : goal.returns-in_err-image
 returns-in_err-image g c =
+    let w = run_words c.args.words.now in
     rw (handed_on c.from_residual-in_err-image.result c.in_err-image.field-0.0 c.from_residual-in_err-image.ensures.1)
-    (image_refused (words_of (command.Run c.args.words.now)) _ _ c.in_ok-loaded.loaded c.in_err-image.field-0.0 refl c.in_ok-loaded.ensures
+    (image_refused w.elf w.input _ _ c.in_ok-loaded.loaded (run_plan w) c.in_err-image.field-0.0 c.in_ok-loaded.ensures
     (subst (λ (bytes : List ℕ). (e : ElfFault) × (c.in_err-image.field-0.0 ≡ Elf e) × (first_fault bytes ≡ Some (number_of e))) c.list.ensures c.in_err-image.ensures.fault))
 
 pub returns-in-Err-Budget : goal.returns-in-Err-Budget
 returns-in-Err-Budget g c =
-    run_over_budget _ _ _ c.in_ok-loaded.loaded c.in_ok-loaded.ensures (subst (λ bytes. first_fault bytes ≡ None) c.list.ensures c.in_ok-image.ensures.faultless)
+    run_over_budget (run_words c.args.words.now) _ _ c.in_ok-loaded.loaded c.in_ok-loaded.ensures (subst (λ bytes. first_fault bytes ≡ None) c.list.ensures c.in_ok-image.ensures.faultless)
     (subst (λ i. GoesOn i c.in_ok-loaded.loaded.input c.args.words.now.budget) (c.in_ok-image.ensures.image ∙ ap (image c.args.words.now.version) c.list.ensures)
     (subst (λ input. GoesOn c.in_ok-image.image input c.args.words.now.budget) c.list-2.ensures (c.in-Err-Budget.ensures.err c.in-Err-Budget.field-0-is)))
 
-pub returns-in_err-write_parts : goal.returns-in_err-write_parts
-returns-in_err-write_parts g c =
-    rw (handed_on c.from_residual-in_err-write_parts.result c.in_err-write_parts.field-0.0 c.from_residual-in_err-write_parts.ensures.1)
-    (run_breaks _ _ _ _ c.in_ok-loaded.loaded c.in-Ok.ran.steps c.in-Ok.ran.end c.in-Ok.ran.output c.in_err-write_parts.field-0.0 c.in_ok-loaded.ensures
+pub returns-in_err-write_files : goal.returns-in_err-write_files
+returns-in_err-write_files g c =
+    let w = run_words c.args.words.now in
+    let ran = c.in-Ok.ran in
+    let output : List ℕ = c.list-output.result.now ++ [] in
+    rw (handed_on c.from_residual-in_err-write_files.result c.in_err-write_files.field-0.0 c.from_residual-in_err-write_files.ensures.1)
+    (performs_torn (plan_of (run w)) _ _ _ (run_outcome w ran.steps ran.end output) c.in_err-write_files.field-0.0 c.in_ok-loaded.ensures.0
+    (run_reaches w _ _ c.in_ok-loaded.loaded ran.steps ran.end output c.in_ok-loaded.ensures
     (subst (λ bytes. first_fault bytes ≡ None) c.list.ensures c.in_ok-image.ensures.faultless)
-    (as_run c.in_ok-image.image (image c.args.words.now.version c.in_ok-loaded.loaded.elf) c.list-2.result.now c.in_ok-loaded.loaded.input c.args.words.now.budget c.in-Ok.ran.steps c.in-Ok.ran.end c.in-Ok.ran.output
-    (c.in_ok-image.ensures.image ∙ ap (image c.args.words.now.version) c.list.ensures) c.list-2.ensures c.in-Ok.ensures.ok.ends c.in-Ok.ensures.ok.within c.in-Ok.ensures.ok.output)
-    (subst (λ (bytes : List ℕ). Writes c.args.words.now.output.now (bytes ++ []) (shelved g.S.Shelf.files g.S.Shelf.read_faults g.S.Shelf.write_faults c.load.new.shelf)
-    (shelved g.S.Shelf.files g.S.Shelf.read_faults g.S.Shelf.write_faults c.write_parts.new.shelf) (Err c.in_err-write_parts.field-0.0)) c.list-output.ensures c.in_err-write_parts.ensures))
+    (as_run c.in_ok-image.image (image w.version c.in_ok-loaded.loaded.elf) c.list-2.result.now c.in_ok-loaded.loaded.input w.budget ran.steps ran.end output
+    (c.in_ok-image.ensures.image ∙ ap (image w.version) c.list.ensures) c.list-2.ensures c.in-Ok.ensures.ok.ends c.in-Ok.ensures.ok.within
+    (append-nil c.list-output.result.now ∙ c.list-output.ensures ∙ c.in-Ok.ensures.ok.output)))
+    c.in_err-write_files.ensures)
 
 pub returns : goal.returns
 returns g c =
-    run_succeeds _ _ _ _ c.in_ok-loaded.loaded c.in-Ok.ran.steps c.in-Ok.ran.end c.in-Ok.ran.output _ c.in_ok-loaded.ensures
+    let w = run_words c.args.words.now in
+    let ran = c.in-Ok.ran in
+    let output : List ℕ = c.list-output.result.now ++ [] in
+    performs_done (plan_of (run w)) _ _ _ _ (run_outcome w ran.steps ran.end output) c.in_ok-loaded.ensures.0
+    (run_reaches w _ _ c.in_ok-loaded.loaded ran.steps ran.end output c.in_ok-loaded.ensures
     (subst (λ bytes. first_fault bytes ≡ None) c.list.ensures c.in_ok-image.ensures.faultless)
-    (as_run c.in_ok-image.image (image c.args.words.now.version c.in_ok-loaded.loaded.elf) c.list-2.result.now c.in_ok-loaded.loaded.input c.args.words.now.budget c.in-Ok.ran.steps c.in-Ok.ran.end c.in-Ok.ran.output
-    (c.in_ok-image.ensures.image ∙ ap (image c.args.words.now.version) c.list.ensures) c.list-2.ensures c.in-Ok.ensures.ok.ends c.in-Ok.ensures.ok.within c.in-Ok.ensures.ok.output)
-    (c.in-Ok-ran_line.ensures ∙ ap (λ (bytes : List ℕ). ran_line c.in-Ok.ran.steps c.in-Ok.ran.end (length bytes)) c.list-output.ensures)
-    (subst (λ (bytes : List ℕ). Writes c.args.words.now.output.now (bytes ++ []) (shelved g.S.Shelf.files g.S.Shelf.read_faults g.S.Shelf.write_faults c.load.new.shelf)
-    (shelved g.S.Shelf.files g.S.Shelf.read_faults g.S.Shelf.write_faults c.write_parts.new.shelf) (Ok c.in_ok-write_parts.field-0)) c.list-output.ensures c.in_ok-write_parts.ensures)
+    (as_run c.in_ok-image.image (image w.version c.in_ok-loaded.loaded.elf) c.list-2.result.now c.in_ok-loaded.loaded.input w.budget ran.steps ran.end output
+    (c.in_ok-image.ensures.image ∙ ap (image w.version) c.list.ensures) c.list-2.ensures c.in-Ok.ensures.ok.ends c.in-Ok.ensures.ok.within
+    (append-nil c.list-output.result.now ∙ c.list-output.ensures ∙ c.in-Ok.ensures.ok.output)))
+    refl
+    (c.in-Ok-ran_line.ensures ∙ ap (λ (bytes : List ℕ). ran_line ran.steps ran.end (length bytes)) (sym (append-nil c.list-output.result.now)))
+    c.in_ok-write_files.ensures

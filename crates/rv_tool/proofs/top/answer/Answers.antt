@@ -1,6 +1,6 @@
 use Rattle.std.proofs.Common.{subst}
 use Rattle.rv_tool.specs.Commands.{words_of}
-use Rattle.rv_tool.specs.Answers.{Prints, sunk}
+use Rattle.rv_tool.specs.Answers.{Prints}
 use Rattle.rv_tool.proofs.Answering.{words_refused, command_done, command_stopped}
 use Rattle.rv_tool.proofs.top.answer.Goals as goal
 
@@ -9,8 +9,8 @@ returns-in_default g c = words_refused _ _ _ _ c.print_fault.result c.in_default
 
 pub returns-in-Ok : goal.returns-in-Ok
 returns-in-Ok g c =
-    command_done _ _ _ _ _ (words_of c.in-Some.asked) c.in-Ok.line c.print.result c.in-Some.ensures.command c.in-Ok.ensures
-    (subst (λ line. Prints (sunk g.K.Sink.written g.K.Sink.faults c.args.out.now) (sunk g.K.Sink.written g.K.Sink.faults c.print.new.out) 0 line c.print.result) c.text.ensures c.print.ensures)
+    command_done _ (words_of c.in-Some.asked) _ _ _ _ c.in-Ok.told c.print.result c.in-Some.ensures.command c.in-Ok.ensures
+    (subst (λ text. Prints (g.K.Sink.view c.args.out.now) (g.K.Sink.view c.print.new.out) c.in-Ok.told.status text c.print.result) c.text.ensures c.print.ensures)
 
 pub returns-in-Err : goal.returns-in-Err
-returns-in-Err g c = command_stopped _ _ _ _ _ (words_of c.in-Some.asked) c.in-Err.fault c.print_fault-in-Err.result c.in-Some.ensures.command c.in-Err.ensures c.print_fault-in-Err.ensures
+returns-in-Err g c = command_stopped _ (words_of c.in-Some.asked) _ _ _ _ c.in-Err.fault c.print_fault-in-Err.result c.in-Some.ensures.command c.in-Err.ensures c.print_fault-in-Err.ensures

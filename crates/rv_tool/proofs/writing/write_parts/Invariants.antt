@@ -6,6 +6,6 @@ use Rattle.rv_tool.proofs.writing.write_parts.Given as goal
 
 abbrev pub invariant-loop-part : goal.invariant-loop-part
 invariant-loop-part g l = record {
-  writes : (any : List ℕ) → g.S.Shelf.write_faults l.shelf any ≡ g.S.Shelf.write_faults l.fn.shelf any;
-  files : g.S.Shelf.files l.shelf ≡ option_map (λ told. with_file told l.fn.name (flat_map (λ part. part.now) (take l.part-index l.fn.parts))) (g.S.Shelf.files l.fn.shelf);
+  writes : (any : List ℕ) → (g.S.Shelf.view l.shelf).write_faults any ≡ (g.S.Shelf.view l.fn.shelf).write_faults any;
+  files : (g.S.Shelf.view l.shelf).files ≡ option_map (λ told. with_file told l.fn.name (flat_map (λ part. part.now) (take l.part-index l.fn.parts))) (g.S.Shelf.view l.fn.shelf).files;
 }
