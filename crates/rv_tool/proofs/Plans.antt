@@ -1,5 +1,5 @@
 -- Plans that read a program: where they stop, and what they reach.
-use Rattle.std.proofs.Common.{◌≡◌, ℕ, ◌<◌, ◌≤◌, ◌+◌, inl, inr, List, length, take, Option, Some, None, Ok, Err, Result, IfSome, refl, sym, subst, ap, ◌∙◌, arith, if◌then◌else◌}
+use Rattle.std.proofs.Common.{◌≡◌, ℕ, ◌<◌, ◌≤◌, ◌+◌, inl, inr, List, length, take, Option, Some, None, Ok, Err, Result, refl, sym, subst, ap, ◌∙◌, arith, if◌then◌else◌}
 use Rattle.std.proofs.lemmas.Bool.{lt-ltb, le-ltb}
 use Rattle.std.proofs.lemmas.List.{length-take, take_all}
 use Rattle.std.specs.Result.{IsErrAnd}
@@ -72,7 +72,7 @@ elf_refused elf input before after (Elf e) h next = absurd h
 elf_refused elf input before after (Budget n) h next = absurd h
 elf_refused elf input before after Read h next = (h.0, inl h.1)
 elf_refused elf input before after Write h next = absurd h
-elf_refused elf input before after Memory h next = h
+elf_refused elf input before after Memory h next = (h, tt)
 elf_refused elf input before after (Limit over) h next = (left h.0, reaches_above before.files elf ELF_LIMIT limited.Elf over _ h.1 h.2)
 elf_refused elf input before after NotBuilt h next = absurd h
 
@@ -88,10 +88,12 @@ input_refused elf input bytes before middle after (Budget n) was h next = absurd
 input_refused elf input bytes before middle after Read was h next =
     (after_both before middle after was.0 h.0, fails_within before after elf ELF_LIMIT limited.Elf _ bytes was.1 was.2 (inl (subst (λ n. Rose n (after.read_faults input)) (was.0.reads input) h.1)))
 input_refused elf input bytes before middle after Write was h next = absurd h
-input_refused elf input bytes before middle after Memory was h next = after_both before middle after was.0 h
-input_refused elf input bytes before middle after (Limit over) was h next =
-    (after_both before middle after was.0 (left h.0), reaches_within before.files elf ELF_LIMIT limited.Elf _ (refuses (Limit over)) bytes was.1 was.2
-    (reaches_above before.files input INPUT_LIMIT limited.Input over _ h.1 (h.2.0, h.2.1, subst (λ files. IsContents files input h.2.0) was.0.files h.2.2)))
+input_refused elf input bytes before middle after Memory was h next = (after_both before middle after was.0 h, tt)
+input_refused elf input bytes before middle after (Limit over) was h next = (
+  after_both before middle after was.0 (left h.0),
+  reaches_within before.files elf ELF_LIMIT limited.Elf _ (refuses (Limit over)) bytes was.1 was.2
+      (reaches_above before.files input INPUT_LIMIT limited.Input over _ h.1 (h.2.0, h.2.1, subst (λ files. IsContents files input h.2.0) was.0.files h.2.2)),
+)
 input_refused elf input bytes before middle after NotBuilt was h next = absurd h
 
 -- both files are read, the second after the first

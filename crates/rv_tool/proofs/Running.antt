@@ -1,18 +1,17 @@
 -- What is loaded is run as the plans say.
-use Rattle.std.proofs.Common.{◌≡◌, ◌⊎◌, inl, inr, ℕ, zero, suc, ◌+◌, ◌-◌, ◌≤◌, List, [], ◌∷◌, ◌++◌, length, Option, Some, None, Ok, Err, false, nat_lt, refl, sym, ◌∙◌, ap, subst, arith, option_map, append-nil, true, if◌then◌else◌}
+use Rattle.std.proofs.Common.{◌≡◌, ◌⊎◌, inl, inr, ℕ, zero, suc, ◌+◌, ◌-◌, ◌≤◌, List, [], ◌∷◌, length, Some, None, Ok, Err, false, nat_lt, refl, sym, ◌∙◌, ap, subst, arith, option_map, true, if◌then◌else◌}
 use Rattle.rv_base.specs.declared.record.End.{End}
 use Rattle.rv_spec.specs.Elf.{Image, image, first_fault}
 use Rattle.rv_spec.specs.Run.{run as state_of, end_at, GoesOn, EndsIn}
 use Rattle.rv_host.specs.Views.{ShelfView}
 use Rattle.rv_host.specs.Counts.{Rose}
-use Rattle.rv_host.specs.Files.{Files}
 use Rattle.rv_tool.specs.CommandLine.{MakeWords, RunWords, make, run}
 use Rattle.rv_tool.specs.Lines.{made_line, ran_line}
 use Rattle.rv_tool.specs.Outcome.{Due, Outcome, Plan, answer, refuses, earlier, ends_within, ran, make_plan, run_plan, plan_of, read_program, with_due}
-use Rattle.rv_tool.specs.Endings.{IsMade, IsTorn, IsWritten, Leaves, Reaches, WriteFails}
+use Rattle.rv_tool.specs.Endings.{IsMade, Reaches, WriteFails}
 use Rattle.rv_tool.specs.FileCalls.{IsUnchanged, Loads, Performs, Stops, Writes}
 use Rattle.rv_tool.specs.declared.faults.Fault.{Fault}
-use Rattle.rv_tool.specs.declared.faults.Fault.TheVariants.{Budget, Memory, NotBuilt, Write}
+use Rattle.rv_tool.specs.declared.faults.Fault.TheVariants.{Budget, Memory, NotBuilt}
 use Rattle.rv_tool.specs.declared.loading.Loaded.{Loaded}
 use Rattle.rv_tool.specs.declared.told.Told.{Told}
 use Rattle.rv_tool.proofs.Plans.{left, reaches_program}
@@ -113,7 +112,7 @@ make_stops w s s' l f alone h faultless (inl is) =
     subst (λ x. Stops (plan_of (make w)) s s' x) (sym is) (left h.0, make_reaches w s s' l (refuses (Budget w.budget)) alone h faultless (inl refl))
 make_stops w s s' l f alone h faultless (inr (inl is)) =
     subst (λ x. Stops (plan_of (make w)) s s' x) (sym is) (left h.0, make_reaches w s s' l (refuses NotBuilt) alone h faultless (inr (inl refl)))
-make_stops w s s' l f alone h faultless (inr (inr is)) = subst (λ x. Stops (plan_of (make w)) s s' x) (sym is) (left h.0)
+make_stops w s s' l f alone h faultless (inr (inr is)) = subst (λ x. Stops (plan_of (make w)) s s' x) (sym is) (stops_alone w s s' Memory alone (left h.0, tt))
 
 -- the outcome of a record that is made
 abbrev pub make_outcome : MakeWords → ℕ → ℕ → End → List ℕ → Outcome

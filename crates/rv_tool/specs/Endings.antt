@@ -1,5 +1,5 @@
 -- How a command ends, and what it leaves on its shelf.
-use Rattle.std.specs.Prelude.{◌≡◌, ◌⊎◌, ℕ, List, [], ◌∷◌, ◌++◌, length, take, Option, Some, IfSome, Result, Ok, Err}
+use Rattle.std.specs.Prelude.{◌≡◌, ◌≢◌, ◌⊎◌, false, ℕ, List, [], ◌∷◌, ◌++◌, length, take, Option, Some, IfSome}
 use Rattle.std.specs.Option.{option_map}
 use Rattle.rv_base.specs.declared.record.End.{End}
 use Rattle.rv_host.specs.Counts.{Rose}
@@ -7,7 +7,7 @@ use Rattle.rv_host.specs.Files.{Files, file, with_file}
 use Rattle.rv_host.specs.Views.{ShelfView}
 use Rattle.rv_tool.specs.CommandLine.{MakeWords}
 use Rattle.rv_tool.specs.Lines.{made_line}
-use Rattle.rv_tool.specs.Faults.{line_of}
+use Rattle.rv_tool.specs.Faults.{has_number, line_of}
 use Rattle.rv_tool.specs.Outcome.{Due, Outcome, Plan, read, answer, records, refuses, with_due}
 use Rattle.rv_tool.specs.declared.faults.Fault.{Fault}
 use Rattle.rv_tool.specs.declared.faults.Fault.TheVariants.{Budget, NotBuilt, Read, Write, Memory}
@@ -30,6 +30,12 @@ abbrev pub Reaches : Option Files → Plan → Outcome → Type 0
 Reaches files (read name next) o = (contents : List ℕ) × IsContents files name contents × Reaches files (next contents) o
 Reaches files (answer outcome) o = o ≡ outcome
 Reaches files (records w outcome) o = IsMade w o
+
+-- the same over files that are told: an outcome of the plan with their contents
+abbrev pub IsOutcomeOver : Files → Plan → Outcome → Type 0
+IsOutcomeOver files (read name next) o = IsOutcomeOver files (next (file files name)) o
+IsOutcomeOver files (answer outcome) o = o ≡ outcome
+IsOutcomeOver files (records w outcome) o = IsMade w o
 
 -- A read of the plan failed: the count of its name rose, and no refusal stands before it.
 abbrev pub ReadFails : ShelfView → ShelfView → Plan → Type 0
@@ -67,6 +73,12 @@ pub record WriteFails (due : List Due) (before after : ShelfView) : Type 0 where
 
 -- ---- the ends of a plan
 
+-- A plan takes memory, unless it is at once a refusal whose line has no number.
+abbrev pub TakesMemory : Plan → Type 0
+TakesMemory (read name next) = Unit {0}
+TakesMemory (answer outcome) = (fault : Fault) → has_number fault ≡ false → outcome ≢ refuses fault
+TakesMemory (records w outcome) = Unit {0}
+
 -- How a plan ends on a shelf, with the status and the text that are to be told.
 pub data Ends (plan : Plan) (before after : ShelfView) (status : ℕ) (text : List ℕ) : Type 0 where
   -- with its outcome, of which all is written
@@ -76,4 +88,4 @@ pub data Ends (plan : Plan) (before after : ShelfView) (status : ℕ) (text : Li
   -- for a write that failed, which the outcome was due
   unwritten : (o : Outcome) → Reaches before.files plan o → status ≡ 6 → text ≡ line_of Write → WriteFails o.writes before after → Ends plan before after status text
   -- for want of memory, before any file has changed
-  no_memory : status ≡ 7 → text ≡ line_of Memory → Leaves before after → Ends plan before after status text
+  no_memory : TakesMemory plan → status ≡ 7 → text ≡ line_of Memory → Leaves before after → Ends plan before after status text

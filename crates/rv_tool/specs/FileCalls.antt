@@ -7,7 +7,7 @@ use Rattle.rv_host.specs.Counts.{Rose}
 use Rattle.rv_host.specs.Files.{Files, file}
 use Rattle.rv_host.specs.Views.{ShelfView}
 use Rattle.rv_tool.specs.Outcome.{Due, Outcome, Plan, read_program, refuses}
-use Rattle.rv_tool.specs.Endings.{IsContents, IsTorn, IsWritten, Leaves, ReadFails, Reaches, WriteFails}
+use Rattle.rv_tool.specs.Endings.{IsContents, IsTorn, IsWritten, Leaves, ReadFails, Reaches, TakesMemory, WriteFails}
 use Rattle.rv_tool.specs.declared.faults.Fault.{Fault}
 use Rattle.rv_tool.specs.declared.faults.Limited.{Limited}
 use Rattle.rv_tool.specs.declared.loading.Loaded.{Loaded}
@@ -41,7 +41,7 @@ ReadsWithin name limit what before after (Err _) = ⊥
 -- A plan stops for a fault.
 abbrev pub Stops : Plan → ShelfView → ShelfView → Fault → Type 0
 Stops plan before after Read = Leaves before after × ReadFails before after plan
-Stops plan before after Memory = Leaves before after
+Stops plan before after Memory = Leaves before after × TakesMemory plan
 Stops plan before after Write = (o : Outcome) × Reaches before.files plan o × WriteFails o.writes before after
 Stops plan before after fault = Leaves before after × Reaches before.files plan (refuses fault)
 

@@ -17,17 +17,28 @@ mod writing;
 use rv_host::{OpenGate, RealShelf, RealSink};
 use std::process::ExitCode;
 use std::{env, io};
+use top::print_no_memory;
 pub use top::{needs_team, tool, tool_one};
 
 /// The status where the system doesn't give the words of the command line as text.
 const NO_WORDS: u8 = 20;
 
+/// Why there are no words.
+enum Wordless {
+    /// The system doesn't give them as text.
+    NotText,
+    /// Want of memory.
+    Memory,
+}
+
 fn main(rt: HostRuntime) -> ExitCode {
-    let Ok(words) = command_words(&rt) else {
-        return ExitCode::from(NO_WORDS);
-    };
     let mut shelf = RealShelf::new(rt);
     let mut out = RealSink::new(rt);
+    let words = match command_words(&rt) {
+        Ok(words) => words,
+        Err(Wordless::NotText) => return ExitCode::from(NO_WORDS),
+        Err(Wordless::Memory) => return ExitCode::from(print_no_memory(&mut out)),
+    };
     ExitCode::from(tool(
         &rt,
         rt.alloc(),
@@ -39,10 +50,17 @@ fn main(rt: HostRuntime) -> ExitCode {
 }
 
 /// The words behind the program's own name.
-fn command_words(rt: &HostRuntime) -> io::Result<Vec<String>> {
+fn command_words(rt: &HostRuntime) -> Result<Vec<String>, Wordless> {
     let mut words = Vec::new(rt.alloc());
-    for word in env::args(rt)?.skip(1) {
-        words.push(word)?;
+    for word in env::args(rt).map_err(why_none)?.skip(1) {
+        words.push(word).map_err(|_| Wordless::Memory)?;
     }
     Ok(words)
+}
+
+fn why_none(error: io::Error) -> Wordless {
+    match error.kind() {
+        io::ErrorKind::OutOfMemory => Wordless::Memory,
+        _ => Wordless::NotText,
+    }
 }

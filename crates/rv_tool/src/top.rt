@@ -1,11 +1,13 @@
-//! The top call: a command line is read, its command is run, and one line tells how it ended.
+//! The top call: a command line is read, its command is run, and a text tells how it ended.
 
 ghost use Rattle.std.specs.Prelude.{◌≡◌, false, map, string_bytes, IsTrue};
 ghost use Rattle.rv_tool.specs.Answers.{Answers, Prints, PrintsFault};
 ghost use Rattle.rv_tool.specs.CommandLine.{command, is_teamwork};
 ghost use Rattle.rv_tool.specs.Commands.{words_of, HasRanges};
+ghost use Rattle.rv_tool.specs.Faults.{line_of};
 ghost use Rattle.rv_tool.specs.FileCalls.{Performs};
 ghost use Rattle.rv_tool.specs.Outcome.{plan, plan_of};
+ghost use Rattle.rv_tool.specs.declared.faults.Fault.TheVariants as fault;
 
 use crate::commands::{Command, parse};
 use crate::faults::Fault;
@@ -28,14 +30,14 @@ pub fn needs_team(words: &[String]) -> bool
     }
 }
 
-/// Runs the command that the words spell, prints one line to `out`, and gives the status to end with:
+/// Runs the command that the words spell, prints its text to `out`, and gives the status to end with:
 ///
 /// - 0: the command's work is done
 /// - 2: the words are no command
 /// - 3: the ELF file has a fault
 /// - 4: the run doesn't end within the budget
 /// - 5: a file couldn't be read
-/// - 6: a file or the line couldn't be written
+/// - 6: a file or the text couldn't be written
 /// - 7: want of memory
 /// - 8: a file is above its limit
 /// - 9: the program can't do this yet
@@ -90,6 +92,7 @@ fn perform<S: Shelf>(alloc: Global, asked: &Command<'_>, shelf: &mut S) -> Resul
     }
 }
 
+/// Prints the line of a fault. Where it has a number, there may be no memory for it.
 fn print_fault<K: Sink>(alloc: Global, out: &mut K, fault: Fault) -> u8
     ensures { PrintsFault (K.view out.old) (K.view out.new) fault result }
 {
@@ -98,15 +101,22 @@ fn print_fault<K: Sink>(alloc: Global, out: &mut K, fault: Fault) -> u8
     }
     match fault.numbered_line(alloc) {
         Ok(line) => print(out, fault.status(), line.text()),
-        Err(NoMemory) => print(out, Fault::Memory.status(), "fault memory\n"),
+        Err(NoMemory) => print_no_memory(out),
     }
 }
 
-/// Puts the line by one call. Where that fails, nothing more is printed and the status is that of a failed write.
-fn print<K: Sink>(out: &mut K, status: u8, line: &str) -> u8
-    ensures { Prints (K.view out.old) (K.view out.new) status line.now result }
+/// Prints the line of want of memory, and gives its status.
+pub fn print_no_memory<K: Sink>(out: &mut K) -> u8
+    ensures { Prints (K.view out.old) (K.view out.new) 7 (line_of fault.Memory) result }
 {
-    match out.put(line.as_bytes()) {
+    print(out, Fault::Memory.status(), "fault memory\n")
+}
+
+/// Puts a text by one call. Where that fails, nothing more is printed and the status is that of a failed write.
+pub fn print<K: Sink>(out: &mut K, status: u8, text: &str) -> u8
+    ensures { Prints (K.view out.old) (K.view out.new) status text.now result }
+{
+    match out.put(text.as_bytes()) {
         Ok(()) => status,
         Err(_) => Fault::Write.status(),
     }

@@ -6,6 +6,8 @@ ghost use Rattle.rv_tool.specs.CommandLine.{command, is_teamwork};
 use super::programs::{PROGRAM, RECORD, of_code, spelled};
 use super::running::{GREETED, GREETING};
 use super::{MADE, expect, shelf_with, words_of};
+use crate::top::print;
+use crate::writing::{DueFile, write_files};
 use crate::{needs_team, tool_one};
 use rv_host::{CalmShelf, MemShelf, MemSink};
 use std::alloc::Global;
@@ -144,5 +146,49 @@ fn an_absent_file_may_count_as_empty(rt: HostRuntime) -> Result<(), Fail> {
         3
     );
     assert_eq!(rt; sink.bytes(), b"fault elf 1 Short\n".as_slice());
+    Ok(())
+}
+
+#[test]
+fn a_text_of_two_lines_is_torn_at_each_byte(rt: HostRuntime) -> Result<(), Fail> {
+    let text = "one 1\ntwo 2\n";
+    for taken in 0..13 {
+        let mut sink = MemSink::new(rt.alloc());
+        sink.plan(1, taken);
+        assert_eq!(rt; print(&mut sink, 0, text), 6, "{taken}");
+        assert!(rt;
+            Some(sink.bytes()) == text.as_bytes().get(..taken),
+            "{taken}"
+        );
+    }
+    Ok(())
+}
+
+#[test]
+fn the_second_of_three_files_is_torn(rt: HostRuntime) -> Result<(), Fail> {
+    let first: [&[u8]; 2] = [b"a", b"b"];
+    let second: [&[u8]; 1] = [b"cd"];
+    let files = [
+        DueFile {
+            name: "first",
+            parts: &first,
+        },
+        DueFile {
+            name: "second",
+            parts: &second,
+        },
+        DueFile {
+            name: "third",
+            parts: &first,
+        },
+    ];
+    let mut shelf = MemShelf::new(rt.alloc());
+    shelf.plan_write(3, 1);
+    assert!(rt; write_files(&mut shelf, &files).is_err());
+    assert_eq!(rt; shelf.file("first"), Some(b"ab".as_slice()));
+    assert_eq!(rt; shelf.file("second"), Some(b"c".as_slice()));
+    assert!(rt; shelf.file("third").is_none());
+    assert!(rt; write_files(&mut shelf, &files).is_ok());
+    assert_eq!(rt; shelf.file("third"), Some(b"ab".as_slice()));
     Ok(())
 }

@@ -148,6 +148,8 @@ fn a_second_worker_asks_for_a_team(rt: HostRuntime) -> Result<(), Fail> {
     let words = words_of(&rt, "make elf input record 2 3 3")?;
     assert!(rt; needs_team(&words));
     let mut shelf = shelf_with(&rt, &PROGRAM)?;
+    // the refusal comes before a read that would fail
+    shelf.plan_read(1);
     let mut sink = MemSink::new(rt.alloc());
     let status = tool(&rt, rt.alloc(), &words, &mut shelf, &mut sink, &OpenGate);
     assert_eq!(rt; status, 9);
