@@ -158,11 +158,23 @@ fn reads_words(rt: HostRuntime) -> Result<(), Fail> {
 }
 
 #[test]
-fn tells_a_fault_by_its_name(rt: HostRuntime) -> Result<(), Fail> {
+fn tells_each_fault_by_its_name(rt: HostRuntime) -> Result<(), Fail> {
     for (fault, name) in [
         (ElfFault::Short, "Short"),
+        (ElfFault::Magic, "Magic"),
+        (ElfFault::Class, "Class"),
+        (ElfFault::Order, "Order"),
+        (ElfFault::Version, "Version"),
+        (ElfFault::Kind, "Kind"),
         (ElfFault::Machine, "Machine"),
+        (ElfFault::HeaderSize, "HeaderSize"),
+        (ElfFault::Headers, "Headers"),
+        (ElfFault::Interpreter, "Interpreter"),
+        (ElfFault::SegmentFile, "SegmentFile"),
+        (ElfFault::SegmentSize, "SegmentSize"),
         (ElfFault::SegmentWrap, "SegmentWrap"),
+        (ElfFault::TooMany, "TooMany"),
+        (ElfFault::Overlap, "Overlap"),
         (ElfFault::Entry, "Entry"),
     ] {
         assert_eq!(rt; fault.to_string(rt.alloc())?.as_str(), name);

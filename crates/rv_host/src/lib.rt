@@ -14,7 +14,7 @@ mod shelf;
 mod sink;
 
 pub use calm_shelf::CalmShelf;
-pub use gate::{Gate, OpenGate};
+pub use gate::{Gate, HoldGate, OpenGate};
 pub use mem_shelf::MemShelf;
 pub use mem_sink::MemSink;
 pub use real_shelf::RealShelf;

@@ -1,6 +1,7 @@
 use super::*;
 use std::fs;
 use std::test::Fail;
+use std::thread::join;
 
 fn holds(file: Option<&[u8]>, bytes: &[u8]) -> bool {
     match file {
@@ -90,6 +91,42 @@ fn the_files_of_the_system(rt: HostRuntime) -> Result<(), Fail> {
 }
 
 #[test]
+fn a_longer_file_of_the_system_is_made_empty(rt: HostRuntime) -> Result<(), Fail> {
+    let name = "real_shelf_longer_test_file";
+    let mut shelf = RealShelf::new(rt);
+    let mut into = [0; 8];
+    assert!(rt; shelf.create(name).is_ok());
+    assert!(rt; shelf.append(name, b"12345").is_ok());
+    assert!(rt; shelf.create(name).is_ok());
+    assert!(rt; shelf.read_at(name, 0, &mut into) == Ok(0));
+    assert!(rt; shelf.append(name, b"67").is_ok());
+    let taken = shelf.read_at(name, 0, &mut into);
+    fs::remove_file(&rt, name)?;
+    assert!(rt; taken == Ok(2));
+    assert!(rt; into == *b"67\0\0\0\0\0\0");
+    Ok(())
+}
+
+#[test]
 fn standard_output(rt: HostRuntime) {
     assert!(rt; RealSink::new(rt).put(b"written\n").is_ok());
+}
+
+#[test]
+fn held_passes_end_with_their_turns(rt: HostRuntime) {
+    let gate = HoldGate::new(3);
+    assert!(rt; !gate.met());
+    gate.pass(0, 0);
+    gate.pass(1, 1);
+    assert!(rt; !gate.met());
+    // a later pass changes nothing
+    gate.pass(0, 2);
+    assert!(rt; !gate.met());
+}
+
+#[test]
+fn two_workers_meet_at_a_gate(rt: HostRuntime) {
+    let gate = HoldGate::new(1_000_000_000);
+    join(&rt, || gate.pass(0, 0), || gate.pass(1, 1));
+    assert!(rt; gate.met());
 }

@@ -1,9 +1,12 @@
 //! Command lines over files in memory: statuses, lines, and what the files hold afterwards.
 
+mod asking;
 mod failing;
 mod making;
+mod naming;
 mod programs;
 mod running;
+mod sharding;
 
 use crate::{needs_team, tool_one};
 use programs::PROGRAM;
