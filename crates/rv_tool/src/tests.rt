@@ -3,7 +3,6 @@
 mod asking;
 mod failing;
 mod making;
-mod naming;
 mod programs;
 mod running;
 mod sharding;

@@ -14,11 +14,7 @@ struct Noting<S: Shelf> {
 }
 
 impl<S: Shelf> Shelf for Noting<S> {
-    ghost files = { λ s. S.files s.files };
-
-    ghost read_faults = { λ s name. S.read_faults s.files name };
-
-    ghost write_faults = { λ s name. S.write_faults s.files name };
+    ghost view = { λ s. S.view s.files };
 
     fn read_at(&mut self, name: &str, at: u64, into: &mut [u8]) -> Result<usize, Failed> {
         self.most = self.most.max(into.len());

@@ -18,16 +18,6 @@ fn the_first_record_is_written_byte_for_byte(rt: HostRuntime) -> Result<(), Fail
 }
 
 #[test]
-fn shard_size_is_its_own_field(rt: HostRuntime) -> Result<(), Fail> {
-    let mut shelf = shelf_with(&rt, &PROGRAM)?;
-    expect(&rt, "make elf input record 1 65536 3", &mut shelf, 0, MADE)?;
-    let record = shelf.file("record").ok_or("no record")?;
-    assert_eq!(rt; record.get(136..140), Some([0, 0, 1, 0].as_slice()));
-    assert_eq!(rt; record.get(173..719).map(|bytes| bytes.len()), Some(546));
-    Ok(())
-}
-
-#[test]
 fn programs_as_a_linker_writes_them(rt: HostRuntime) -> Result<(), Fail> {
     let mut bytes = Vec::new(rt.alloc());
     bytes.extend_from_slice(&PROGRAM[84..])?;
