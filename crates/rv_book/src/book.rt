@@ -45,9 +45,7 @@ impl<'t, T: Task> Book<'t, T> {
         requires bound { n ≤ T.bound task.now }
         ensures { IfOk result (λ b. b ≡ record { pieces = pieces_of (T.piece task.now) n; journal = [] }) }
     {
-        let Ok(journal) = Vec::with_capacity(alloc, n as usize) else {
-            return Err(NoMemory);
-        };
+        let journal = Vec::with_capacity(alloc, n as usize)?;
         let slots = empty_slots(alloc, n)?;
         Ok(Book {
             task,
@@ -122,9 +120,7 @@ fn empty_slots(alloc: Global, n: u32) -> Result<Vec<Option<Piece>>, NoMemory>
 {
     let mut slots = Vec::new(alloc);
     for _ in 0..n {
-        if slots.push(None).is_err() {
-            return Err(NoMemory);
-        }
+        slots.push(None)?;
     }
     Ok(slots)
 }

@@ -51,13 +51,9 @@ impl FileMap {
         ensures ok { OnOk result (self.new ≡ with_file self.old name.now bytes.items) }
         ensures err { OnErr result (self.new ≡ self.old) }
     {
-        let Ok(name) = String::from_str(self.alloc, name) else {
-            return Err(NoMemory);
-        };
-        match self.files.insert(name, bytes) {
-            Ok(_) => Ok(()),
-            Err(_) => Err(NoMemory),
-        }
+        let name = String::from_str(self.alloc, name)?;
+        self.files.insert(name, bytes)?;
+        Ok(())
     }
 
     /// Sets the bytes of a file to a copy of these.
@@ -65,10 +61,8 @@ impl FileMap {
         ensures ok { OnOk result (self.new ≡ with_file self.old name.now bytes.now) }
         ensures err { OnErr result (self.new ≡ self.old) }
     {
-        match bytes.to_vec(self.alloc) {
-            Ok(copy) => self.set(name, copy),
-            Err(_) => Err(NoMemory),
-        }
+        let copy = bytes.to_vec(self.alloc)?;
+        self.set(name, copy)
     }
 
     /// Adds bytes at the end of a file. An absent name is made.

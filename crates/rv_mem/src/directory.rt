@@ -111,8 +111,6 @@ fn grow(entries: &mut Vec<u32>) -> Result<(), NoMemory>
     let Some(end) = entries.len().checked_add(ENTRIES) else {
         return Err(NoMemory);
     };
-    match entries.resize(end, 0) {
-        Ok(()) => Ok(()),
-        Err(_) => Err(NoMemory),
-    }
+    entries.resize(end, 0)?;
+    Ok(())
 }

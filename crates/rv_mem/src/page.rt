@@ -25,9 +25,7 @@ pub fn list_used(first: u32, words: &[Word], entries: &mut Vec<TableEntry>) -> R
                 value: word.value,
                 time: word.time,
             };
-            let Ok(()) = entries.push(entry) else {
-                return Err(NoMemory);
-            };
+            entries.push(entry)?;
         }
     }
     Ok(())

@@ -90,10 +90,7 @@ impl<'a> Words<'a> {
         let Ok(number) = u32::try_from(index + 1) else {
             return Err(NoMemory);
         };
-        match self.pages.push(first_page(&self.image, page)) {
-            Ok(()) => {}
-            Err(_) => return Err(NoMemory),
-        }
+        self.pages.push(first_page(&self.image, page))?;
         self.directory.enter(page, number);
         Ok(index)
     }

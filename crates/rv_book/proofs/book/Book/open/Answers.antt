@@ -13,8 +13,8 @@ invariant_of-result g c =
     let ps : List Piece = pieces_of (g.T.Task.piece c.args.task.now) c.args.n in
     let long = length-map-range_with_len (g.T.Task.piece c.args.task.now) 0 c.args.n in
     let slots : c.in_ok-slots.slots.items ≡ replicate c.args.n None = search rules in
-    let entries : c.in-Ok.journal.items ≡ [] = search rules in (
-      subst (λ (os : List (Option Piece)). RepresentsBook ps os c.in-Ok.journal.items c.zero.result.lanes c.zero-2.result.lanes) (sym slots)
+    let entries : c.in_ok-journal.journal.items ≡ [] = search rules in (
+      subst (λ (os : List (Option Piece)). RepresentsBook ps os c.in_ok-journal.journal.items c.zero.result.lanes c.zero-2.result.lanes) (sym slots)
           (subst (λ (es : List Entry). RepresentsBook ps (replicate c.args.n None) es c.zero.result.lanes c.zero-2.result.lanes) (sym entries)
           (subst (λ (rs : List ℕ). RepresentsBook ps (replicate c.args.n None) [] rs c.zero-2.result.lanes) (sym c.zero.ensures.zeros)
           (subst (λ (ws : List ℕ). RepresentsBook ps (replicate c.args.n None) [] zeros ws) (sym c.zero-2.ensures.zeros)
