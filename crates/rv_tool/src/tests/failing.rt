@@ -7,7 +7,6 @@ use super::programs::{PROGRAM, RECORD, of_code, spelled};
 use super::running::{GREETED, GREETING};
 use super::{MADE, expect, shelf_with, words_of};
 use crate::top::print;
-use crate::writing::{DueFile, write_files};
 use crate::{needs_team, tool_one};
 use rv_host::{CalmShelf, MemShelf, MemSink};
 use std::alloc::Global;
@@ -161,34 +160,5 @@ fn a_text_of_two_lines_is_torn_at_each_byte(rt: HostRuntime) -> Result<(), Fail>
             "{taken}"
         );
     }
-    Ok(())
-}
-
-#[test]
-fn the_second_of_three_files_is_torn(rt: HostRuntime) -> Result<(), Fail> {
-    let first: [&[u8]; 2] = [b"a", b"b"];
-    let second: [&[u8]; 1] = [b"cd"];
-    let files = [
-        DueFile {
-            name: "first",
-            parts: &first,
-        },
-        DueFile {
-            name: "second",
-            parts: &second,
-        },
-        DueFile {
-            name: "third",
-            parts: &first,
-        },
-    ];
-    let mut shelf = MemShelf::new(rt.alloc());
-    shelf.plan_write(3, 1);
-    assert!(rt; write_files(&mut shelf, &files).is_err());
-    assert_eq!(rt; shelf.file("first"), Some(b"ab".as_slice()));
-    assert_eq!(rt; shelf.file("second"), Some(b"c".as_slice()));
-    assert!(rt; shelf.file("third").is_none());
-    assert!(rt; write_files(&mut shelf, &files).is_ok());
-    assert_eq!(rt; shelf.file("third"), Some(b"ab".as_slice()));
     Ok(())
 }
