@@ -7,6 +7,7 @@ use super::programs::{PROGRAM, RECORD, of_code, spelled};
 use super::running::{GREETED, GREETING};
 use super::{MADE, expect, shelf_with, words_of};
 use crate::top::print;
+use crate::writing::{DueFile, write_files};
 use crate::{needs_team, tool_one};
 use rv_host::{CalmShelf, MemShelf, MemSink};
 use std::alloc::Global;
@@ -159,6 +160,27 @@ fn a_text_of_two_lines_is_torn_at_each_byte(rt: HostRuntime) -> Result<(), Fail>
             Some(sink.bytes()) == text.as_bytes().get(..taken),
             "{taken}"
         );
+    }
+    Ok(())
+}
+
+#[test]
+fn the_second_of_two_files_is_torn(rt: HostRuntime) -> Result<(), Fail> {
+    let bytes = vec![in rt.alloc(); b'a'; 2]?;
+    let parts = [bytes.as_slice(), bytes.as_slice()];
+    let first = DueFile {
+        name: "first",
+        parts: &parts,
+    };
+    let second = DueFile {
+        name: "second",
+        parts: &parts,
+    };
+    let mut shelf = MemShelf::new(rt.alloc());
+    shelf.plan_write(4, 1);
+    assert!(rt; write_files(&mut shelf, &[first, second]).is_err());
+    for (name, held) in [("first", b"aaaa".as_slice()), ("second", b"aaa".as_slice())] {
+        assert!(rt; shelf.file(name) == Some(held), "{name}");
     }
     Ok(())
 }
