@@ -1,6 +1,6 @@
 -- The image of a file without a fault is, address by address, what its segments take from the file.
-use Rattle.std.proofs.Common.{◌≡◌, ℕ, ◌+◌, ◌-◌, ◌<◌, ◌≤◌, min, max, Bool, true, false, cond, ◌&&◌, ◌||◌, nat_lt, nat_le, List, [], ◌∷◌, length, take, drop, map, slice_index, Some, None, refl, sym, ◌∙◌, ap, subst, true≢false, arith, length-take, length-drop, get_or-take, get_or-drop, inl, inr}
-use Rattle.std.specs.List.{AllByRecursion, list_any, position_from}
+use Rattle.std.proofs.Common.{◌≡◌, ℕ, ◌+◌, ◌-◌, ◌<◌, ◌≤◌, min, max, Bool, true, false, cond, ◌&&◌, nat_lt, nat_le, List, [], ◌∷◌, length, take, drop, map, slice_index, None, refl, sym, ◌∙◌, ap, subst, arith, length-take, length-drop, get_or-take, get_or-drop, inl, inr}
+use Rattle.std.specs.List.{AllByRecursion, list_any}
 use Rattle.std.proofs.lemmas.Bool.{ltb-true, ltb-false, lt-ltb, leb-true, le-leb}
 use Rattle.rv_spec.specs.Words.{block_byte}
 use Rattle.rv_rules.specs.Membership.{In}

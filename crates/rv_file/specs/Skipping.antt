@@ -1,9 +1,6 @@
 -- What is left of a file behind its parts, by their form alone: private steps of parsing.
-use Rattle.std.specs.Prelude.{◌≡◌, ℕ, zero, suc, ◌+◌, ◌-◌, false, ◌&&◌, ◌||◌, List, [], ◌∷◌, length, drop, Option, Some, None, Result, Ok, Err, nat_le, ◌==◌}
-use Rattle.std.specs.Int.{div_ceil, is_in_range}
-use Rattle.rv_base.specs.declared.machine.TheConstants.{EXIT, MISALIGNED_STORE}
-use Rattle.rv_base.specs.declared.limits.TheConstants.{OUTPUT_LIMIT, SHARD_SIZE_LIMIT, SHARDS_LIMIT}
-use Rattle.rv_base.specs.declared.rules.TheConstants.{SHORT, SHARD_SIZE, COUNTS, END_KIND, OUTPUT_LENGTH, SHARD_HEAD, ROW_BYTES, TRAILING}
+use Rattle.std.specs.Prelude.{◌≡◌, ℕ, zero, suc, ◌+◌, ◌-◌, false, ◌&&◌, List, [], ◌∷◌, length, drop, Option, Some, None, Result, Ok, Err, nat_le, ◌==◌}
+use Rattle.rv_base.specs.declared.rules.TheConstants.{SHORT, SHARD_HEAD, ROW_BYTES, TRAILING}
 use Rattle.rv_base.specs.declared.layout.TheConstants as at
 use Rattle.rv_base.specs.declared.record.Header.{Header}
 use Rattle.rv_base.specs.declared.record.Refusal.{Refusal}
@@ -12,7 +9,7 @@ use Rattle.rv_spec.specs.Record.{shard_rows}
 use Rattle.rv_spec.specs.Words.{u32_at}
 use Rattle.rv_rules.specs.Sums.{tiny_lanes}
 use Rattle.rv_rules.specs.Reading.{header_of, header_checks, head_of, row_form, row_size, read_entry}
-use Rattle.rv_rules.specs.Checks.{Check, unless_broken, ◌>>=◌}
+use Rattle.rv_rules.specs.Checks.{unless_broken, ◌>>=◌}
 
 -- What a function returned, seen by view, is what reading gives.
 abbrev pub IsViewOf : {X Y : Type 0} → (X → Y) → Result X Refusal → Result Y Refusal → Type 0

@@ -1,5 +1,5 @@
 -- The reading of a record file behind its header and output, phase by phase, with the digests of what it has read as running sums.
-use Rattle.std.specs.Prelude.{ℕ, zero, suc, ◌+◌, ◌*◌, Bool, true, false, ◌&&◌, List, [], ◌∷◌, ◌++◌, length, drop, map, replicate, Option, Some, None, Result, Ok, Err, take, bytes_eq, slice_index, nat_lt, nat_le, ◌==◌, if◌then◌else◌}
+use Rattle.std.specs.Prelude.{ℕ, zero, suc, ◌+◌, ◌*◌, Bool, true, false, ◌&&◌, List, [], ◌∷◌, ◌++◌, length, drop, map, replicate, Option, Some, None, Result, Ok, Err, take, bytes_eq, nat_lt, nat_le, ◌==◌, if◌then◌else◌}
 use Rattle.rv_base.specs.declared.rules.TheConstants.{SHORT, SHARD_HEAD, ROW_BYTES, SHARD_DIGEST, TABLE_ORDER, TABLE_CELL, TABLE_TIME, LEFT, BALANCE, TRAILING}
 use Rattle.rv_base.specs.declared.layout.TheConstants as at
 use Rattle.rv_base.specs.declared.record.Header.{Header}

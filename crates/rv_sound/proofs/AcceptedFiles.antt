@@ -1,5 +1,5 @@
 -- An accepted file is the record of the run, or its two lists are different multisets of one digest.
-use Rattle.std.proofs.Common.{◌≡◌, ◌⊎◌, ℕ, List, None, Ok, ◌∙◌, ap, inl, inr}
+use Rattle.std.proofs.Common.{◌≡◌, ◌⊎◌, ℕ, List, None, ◌∙◌, ap, inl, inr}
 use Rattle.rv_base.specs.declared.record.End.{End}
 use Rattle.rv_spec.specs.Words.{AreBytes}
 use Rattle.rv_spec.specs.Elf.{image, first_fault}
@@ -7,7 +7,7 @@ use Rattle.rv_spec.specs.Digest.{Lanes}
 use Rattle.rv_spec.specs.Record.{Parts, file_bytes, reads, writes, record_parts, record_file}
 use Rattle.rv_spec.specs.Conclusion.{IsRecord}
 use Rattle.rv_spec.specs.Grammar.{Spells}
-use Rattle.rv_rules.specs.Verdict.{judge, verdict_of}
+use Rattle.rv_rules.specs.Verdict.{verdict_of}
 use Rattle.rv_spec.specs.Conclusion.{IsCollision}
 use Rattle.rv_rules.specs.Laws.{AcceptedIsRecord, RecordIsAccepted}
 use Rattle.rv_sound.specs.Accepted.{IsAccepted, ReadsAccepted}

@@ -1,5 +1,5 @@
 -- Instruction words: RISC-V Unprivileged ISA, chapters RV32I, "M" and "A", and the table of the instruction set listings.
-use Rattle.std.specs.Prelude.{ℕ, ◌+◌, ◌*◌, ◌%◌, ◌^◌, ℤ, pos, Bool, ◌&&◌, List, [], ◌∷◌, Option, Some, None, find, option_map, ◌==◌, if◌then◌else◌}
+use Rattle.std.specs.Prelude.{ℕ, ◌+◌, ◌*◌, ◌%◌, ◌^◌, ℤ, pos, Bool, ◌&&◌, List, [], ◌∷◌, Option, None, find, option_map, ◌==◌, if◌then◌else◌}
 use Rattle.std.specs.Option.{option_or}
 use Rattle.rv_base.specs.declared.instr.Op.{Op}
 use Rattle.rv_base.specs.declared.instr.Op.TheVariants as op

@@ -1,9 +1,8 @@
 -- The image of an ELF executable: System V gABI, chapters 4 (ELF header) and 5 (program header, PT_LOAD), for 32 bits; e_machine 243 is RISC-V's in the RISC-V ELF psABI. The faults, their numbers and the limit of 64 segments are this project's own.
-use Rattle.std.specs.Prelude.{◌≡◌, ℕ, ◌+◌, ◌-◌, ◌*◌, ◌%◌, ◌^◌, ◌<◌, ◌≤◌, min, max, Bool, false, not, ◌&&◌, ◌||◌, List, [], ◌∷◌, ◌++◌, length, take, drop, map, filter, replicate, Option, slice_index, nat_lt, nat_eq, ◌==◌}
-use Rattle.std.specs.List.{list_any, position_from, range_with_len, starts_with, flat_map, AllByRecursion}
-use Rattle.std.specs.Int.{w16, w32, to_le_bytes}
+use Rattle.std.specs.Prelude.{ℕ, ◌+◌, ◌*◌, ◌%◌, ◌^◌, min, max, Bool, false, not, ◌&&◌, ◌||◌, List, [], ◌∷◌, length, take, drop, map, filter, Option, slice_index, nat_lt, nat_eq, ◌==◌}
+use Rattle.std.specs.List.{list_any, position_from, range_with_len, starts_with}
 use Rattle.rv_base.specs.declared.limits.TheConstants.{SEGMENTS_LIMIT}
-use Rattle.rv_spec.specs.Words.{u16_at, u32_at, Block, block_byte}
+use Rattle.rv_spec.specs.Words.{u16_at, u32_at, Block}
 
 -- what a program header says of a segment (gABI, chapter 5, Elf32_Phdr): p_type, p_offset, p_vaddr, p_filesz, p_memsz
 pub record Segment : Type 0 where
