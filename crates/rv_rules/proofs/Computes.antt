@@ -2,8 +2,7 @@
 use Rattle.rv_rules.specs.Expected.{expected, expected_instr, expected_atomic, expected_call, splice, extract}
 use Rattle.rv_rules.specs.RowRules.{row_checks, place_after}
 use Rattle.rv_rules.specs.Reading.{read_row, read_rows, read_shard, read_shards, read_entries, read_file}
-use Rattle.rv_rules.specs.Start.{steps_from}
 
 unfoldable pub judges : Unit {0}
-unfolding expected expected_instr expected_atomic expected_call splice extract row_checks place_after read_row read_rows read_shard read_shards read_entries read_file steps_from
+unfolding expected expected_instr expected_atomic expected_call splice extract row_checks place_after read_row read_rows read_shard read_shards read_entries read_file
 judges = tt

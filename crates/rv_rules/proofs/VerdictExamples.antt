@@ -9,7 +9,6 @@ use Rattle.rv_rules.specs.Sums.{tiny_lanes}
 use Rattle.rv_rules.specs.Expected.{expected}
 use Rattle.rv_rules.specs.RowRules.{seen}
 use Rattle.rv_rules.specs.Verdict.{verdict}
-use Rattle.rv_rules.specs.Start.{shard_start}
 use Rattle.rv_spec.proofs.Computes.{computes}
 use Rattle.rv_spec.proofs.RunExamples.{reserving}
 use Rattle.rv_spec.proofs.RecordExample.{elf, file}
@@ -55,10 +54,6 @@ forged = set (set (set (set tiny_file 363 43) 375 43) 153 43) 691 43
 forged_accepted : verdict tiny_lanes elf [] forged ≡ Accept 3 1 (record { kind = 0; code = 43 })
 unfolding computes judges
 forged_accepted = refl
-
-third_start : shard_start (image 1 elf) [] 1 2 ≡ record { index = 2; rows = 1; step = 2; place = record { pc = 0x10008; input = 0; output = 0 }; cells = record { cell = 0x4002; value = 0x73; time = 0 } ∷ record { cell = 0x4000000A; value = 42; time = 7 } ∷ record { cell = 0x40000011; value = 93; time = 23 } ∷ [] }
-unfolding computes judges
-third_start = refl
 
 -- the expected step of a row is the row's own
 sc_expected : map (λ t. t.new) (expected 2 0x10008 (seen (row reserving [] 2).accesses) [] 0).touches ≡ map (λ a. a.new) (row reserving [] 2).accesses

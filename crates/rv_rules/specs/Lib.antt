@@ -18,7 +18,5 @@ pub mod Verdict
 pub mod Chain
 -- the ranges of states, and the agreement of expected steps with the machine
 pub mod Agreement
--- shards before they are made, and what making one gives
-pub mod Start
 -- the laws of accepted files, of records and of the grammar
 pub mod Laws

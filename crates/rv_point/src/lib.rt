@@ -1,0 +1,2 @@
+//! The run of a program gone through once, and what the replay of each shard needs.
+#![tactic(auto)]
