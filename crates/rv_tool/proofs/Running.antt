@@ -40,28 +40,6 @@ later i input n (suc more) r h =
 found_within : (i : Image) (input : List ℕ) (n budget : ℕ) (e : End) → EndsIn i input n e → n ≤ budget → ends_within i input budget ≡ Some (n, e)
 found_within i input n budget e h le = let whole : budget - n + n ≡ budget = omega (arith, le) in subst (λ b. ends_within i input b ≡ Some (n, e)) whole (later i input n (budget - n) (n, e) (at_end i input n e h))
 
--- ---- a command that has read its files, and writes
-
--- the views around a write that follows calls which changed nothing
-pub writes_fail : (due : List Due) (s s' s'' : ShelfView) → IsUnchanged s s' → WriteFails due s' s'' → WriteFails due s s''
-writes_fail due s s' s'' same h = record {
-  first = h.first;
-  name = h.name;
-  bytes = h.bytes;
-  last = h.last;
-  order = h.order;
-  rose = subst (λ n. Rose n (s''.write_faults h.name)) (same.writes h.name) h.rose;
-  torn = λ told is. h.torn told (same.files ∙ is);
-}
-
-pub performs_done : (plan : Plan) (s s' s'' : ShelfView) (told : Told) (o : Outcome) → IsUnchanged s s' → Reaches s.files plan o → told.status ≡ o.status → told.text ≡ o.text → Writes o.writes s' s'' (Ok tt) → Performs plan s s'' (Ok told)
-performs_done plan s s' s'' told o same reached status text wrote =
-    (o, reached, status, text, record { files = wrote.files ∙ ap (option_map (λ fs. with_due fs o.writes)) same.files; writes = λ name. wrote.writes name ∙ same.writes name })
-
-pub performs_torn : (plan : Plan) (s s' s'' : ShelfView) (o : Outcome) (f : Fault) → IsUnchanged s s' → Reaches s.files plan o → Writes o.writes s' s'' (Err f) → Stops plan s s'' f
-performs_torn plan s s' s'' o f same reached wrote =
-    subst (λ x. Stops plan s s'' x) (sym wrote.0) (o, reached, writes_fail o.writes s s' s'' same wrote.1)
-
 -- ---- run
 
 pub run_over_budget : (w : RunWords) (s s' : ShelfView) (l : Loaded) → Loads w.elf w.input s s' (Ok l) → first_fault l.elf ≡ None → GoesOn (image w.version l.elf) l.input w.budget → Stops (plan_of (run w)) s s' (Budget w.budget)

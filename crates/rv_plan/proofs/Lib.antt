@@ -1,0 +1,6 @@
+pub mod Lemmas
+mod Answering
+mod Fronts
+mod Plans
+mod Parts
+mod Running

@@ -1,0 +1,30 @@
+-- What is loaded is told, and what is due is written, as the plans say.
+use Rattle.std.proofs.Common.{◌≡◌, ℕ, List, Ok, Err, refl, sym, ◌∙◌, ap, subst, option_map}
+use Rattle.rv_host.specs.Views.{ShelfView}
+use Rattle.rv_host.specs.Counts.{Rose}
+use Rattle.rv_plan.specs.Plan.{Due, Outcome, Plan, with_due}
+use Rattle.rv_plan.specs.Endings.{Reaches, WriteFails}
+use Rattle.rv_plan.specs.FileCalls.{IsUnchanged, Performs, Stops, Writes}
+use Rattle.rv_plan.specs.declared.faults.Fault.{Fault}
+use Rattle.rv_plan.specs.declared.told.Told.{Told}
+
+-- the views around a write that follows calls which changed nothing
+pub writes_fail : (due : List Due) (s s' s'' : ShelfView) → IsUnchanged s s' → WriteFails due s' s'' → WriteFails due s s''
+writes_fail due s s' s'' same h = record {
+  first = h.first;
+  name = h.name;
+  bytes = h.bytes;
+  last = h.last;
+  order = h.order;
+  rose = subst (λ n. Rose n (s''.write_faults h.name)) (same.writes h.name) h.rose;
+  torn = λ told is. h.torn told (same.files ∙ is);
+}
+
+pub performs_done : (plan : Plan) (s s' s'' : ShelfView) (told : Told) (o : Outcome) → IsUnchanged s s' → Reaches s.files plan o → told.status ≡ o.status → told.text ≡ o.text → Writes o.writes s' s'' (Ok tt) → Performs plan s s'' (Ok told)
+performs_done plan s s' s'' told o same reached status text wrote =
+    (o, reached, status, text, record { files = wrote.files ∙ ap (option_map (λ fs. with_due fs o.writes)) same.files; writes = λ name. wrote.writes name ∙ same.writes name })
+
+pub performs_torn : (plan : Plan) (s s' s'' : ShelfView) (o : Outcome) (f : Fault) → IsUnchanged s s' → Reaches s.files plan o → Writes o.writes s' s'' (Err f) → Stops plan s s'' f
+performs_torn plan s s' s'' o f same reached wrote =
+    subst (λ x. Stops plan s s'' x) (sym wrote.0) (o, reached, writes_fail o.writes s s' s'' same wrote.1)
+

@@ -1,0 +1,26 @@
+-- The lines of faults: numbers are decimal, and each line ends with a newline (this project's own).
+use Rattle.std.specs.Prelude.{ℕ, ◌-◌, List, [], ◌∷◌, ◌++◌, codes, decimal, ◌==◌, if◌then◌else◌}
+
+abbrev pub line : List ℕ → List ℕ
+line text = text ++ 10 ∷ []
+
+-- the name at a number, from 1 on
+abbrev pub name_at : List (List ℕ) → ℕ → List ℕ
+name_at [] n = []
+name_at (x ∷ xs) n = if n == 1 then x else name_at xs (n - 1)
+
+-- the faults of an ELF file in order of their numbers
+abbrev pub fault_names : List (List ℕ)
+fault_names =
+    codes "Short" ∷ codes "Magic" ∷ codes "Class" ∷ codes "Order" ∷ codes "Version" ∷ codes "Kind" ∷ codes "Machine"
+    ∷ codes "HeaderSize" ∷ codes "Headers" ∷ codes "Interpreter" ∷ codes "SegmentFile" ∷ codes "SegmentSize" ∷ codes "SegmentWrap"
+    ∷ codes "TooMany" ∷ codes "Overlap" ∷ codes "Entry" ∷ []
+
+abbrev pub elf_line : ℕ → List ℕ
+elf_line n = line (codes "fault elf " ++ decimal n ++ 32 ∷ name_at fault_names n)
+
+abbrev pub budget_line : ℕ → List ℕ
+budget_line budget = line (codes "fault budget " ++ decimal budget)
+
+abbrev pub limit_line : List ℕ → List ℕ
+limit_line what = line (codes "fault limit " ++ what)

@@ -1,0 +1,121 @@
+//! Why a command ends without doing its work, with the status and the line of each cause.
+
+ghost use Rattle.std.specs.Prelude.{◌≡◌, IfOk, IsTrue, MatchOption, string_bytes};
+ghost use Rattle.rv_elf.specs.Faults.{number_of};
+ghost use Rattle.rv_plan.specs.Lines.{name_at, fault_names, elf_line as elf_line_of};
+ghost use Rattle.rv_plan.specs.Faults.{status_of, line_of, has_number};
+
+use rv_base::{NoMemory, Text};
+use rv_elf::ElfFault;
+use std::alloc::{AllocError, Global};
+
+/// A file that is held to a limit.
+#[derive(Clone, Copy, Debug)]
+pub enum Limited {
+    Elf,
+    Input,
+}
+
+/// Why a command ended without doing its work.
+#[derive(Clone, Copy, Debug)]
+pub enum Fault {
+    /// The words are no command.
+    Words,
+    /// The ELF file has a fault.
+    Elf(ElfFault),
+    /// The run doesn't end within this number of steps.
+    Budget(u32),
+    /// A file couldn't be read.
+    Read,
+    /// The file that the command writes, or its line, couldn't be written.
+    Write,
+    /// Want of memory.
+    Memory,
+    /// A file is above its limit.
+    Limit(Limited),
+    /// The program can't do this yet.
+    NotBuilt,
+}
+
+impl Fault {
+    /// The status that the program ends with.
+    pub fn status(&self) -> u8
+        ensures { result ≡ status_of self.now }
+    {
+        match self {
+            Fault::Words => 2,
+            Fault::Elf(_) => 3,
+            Fault::Budget(_) => 4,
+            Fault::Read => 5,
+            Fault::Write => 6,
+            Fault::Memory => 7,
+            Fault::Limit(_) => 8,
+            Fault::NotBuilt => 9,
+        }
+    }
+
+    /// The line that the program prints, where it has no number.
+    pub fn fixed_line(&self) -> Option<&'static str>
+        ensures { MatchOption result (IsTrue (has_number self.now)) (λ line. line.now ≡ line_of self.now) }
+    {
+        match self {
+            Fault::Words => Some("fault words\n"),
+            Fault::Elf(_) | Fault::Budget(_) => None,
+            Fault::Read => Some("fault read\n"),
+            Fault::Write => Some("fault write\n"),
+            Fault::Memory => Some("fault memory\n"),
+            Fault::Limit(Limited::Elf) => Some("fault limit elf\n"),
+            Fault::Limit(Limited::Input) => Some("fault limit input\n"),
+            Fault::NotBuilt => Some("fault notbuilt\n"),
+        }
+    }
+
+    /// The line that the program prints, where it has a number.
+    pub fn numbered_line(&self, alloc: Global) -> Result<Text, NoMemory>
+        requires { IsTrue (has_number self.now) }
+        ensures { IfOk result (λ text. text ≡ line_of self.now) }
+    {
+        let line = match self {
+            Fault::Elf(fault) => elf_line(alloc, *fault),
+            Fault::Budget(steps) => format!(in alloc; "fault budget {steps}\n"),
+            _ => unreachable!(),
+        };
+        match line {
+            Ok(text) => Ok(Text::of(text)),
+            Err(_) => Err(NoMemory),
+        }
+    }
+}
+
+fn elf_line(alloc: Global, fault: ElfFault) -> Result<String, AllocError>
+    ensures { IfOk result (λ text. string_bytes text ≡ elf_line_of (number_of fault)) }
+{
+    let number = fault.number();
+    let name = fault_name(fault);
+    let line = format!(in alloc; "fault elf {number} {name}\n")?;
+    Ok(line)
+}
+
+/// The name of a fault of an ELF file, as the line prints it.
+fn fault_name(fault: ElfFault) -> &'static str
+    ensures { result.now ≡ name_at fault_names (number_of fault) }
+{
+    match fault {
+        ElfFault::Short => "Short",
+        ElfFault::Magic => "Magic",
+        ElfFault::Class => "Class",
+        ElfFault::Order => "Order",
+        ElfFault::Version => "Version",
+        ElfFault::Kind => "Kind",
+        ElfFault::Machine => "Machine",
+        ElfFault::HeaderSize => "HeaderSize",
+        ElfFault::Headers => "Headers",
+        ElfFault::Interpreter => "Interpreter",
+        ElfFault::SegmentFile => "SegmentFile",
+        ElfFault::SegmentSize => "SegmentSize",
+        ElfFault::SegmentWrap => "SegmentWrap",
+        ElfFault::TooMany => "TooMany",
+        ElfFault::Overlap => "Overlap",
+        ElfFault::Entry => "Entry",
+    }
+}

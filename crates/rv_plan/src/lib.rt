@@ -1,0 +1,16 @@
+//! A command as a plan: the files that it reads, how their contents say it goes on, and the outcome with which
+//! it ends. And the driver of all commands: files read within limits and written part by part, faults with
+//! their lines, and the promise of what is told at the end, whatever fails.
+#![tactic(auto)]
+
+mod faults;
+mod loading;
+mod telling;
+mod told;
+mod writing;
+
+pub use faults::{Fault, Limited};
+pub use loading::{Loaded, image_of, load};
+pub use telling::{print_no_memory, tell};
+pub use told::Told;
+pub use writing::{DueFile, write_files};
