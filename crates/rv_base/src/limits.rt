@@ -9,6 +9,9 @@ pub const INPUT_LIMIT: usize = 16_777_216;
 /// The most bytes of output that a record states.
 pub const OUTPUT_LIMIT: u64 = 67_108_864;
 
+/// The most bytes of a record that a command holds whole.
+pub const RECORD_LIMIT: usize = 2_147_483_648;
+
 /// The most rows of a shard.
 pub const SHARD_SIZE_LIMIT: u32 = 65_536;
 
