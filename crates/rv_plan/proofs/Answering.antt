@@ -43,6 +43,9 @@ pub listed_if : (b : Bool) (x y : Plan) → AllListed x → AllListed y → AllL
 listed_if true x y hx hy = hx
 listed_if false x y hx hy = hy
 
+pub listed_read : (name : List ℕ) (next : List ℕ → Plan) → ((bytes : List ℕ) → AllListed (next bytes)) → AllListed (read name next)
+listed_read name next h files o r = h r.0 files o r.2
+
 pub listed_within : (name : List ℕ) (limit : ℕ) (what : Limited) (next : List ℕ → Plan) → ((bytes : List ℕ) → AllListed (next bytes)) → AllListed (read_within name limit what next)
 listed_within name limit what next h files o r =
     listed_if (nat_lt limit (length r.0)) (answer (refuses (Limit what))) (next r.0) (listed_answer (refuses (Limit what)) (refusal_listed (Limit what))) (h r.0) files o r.2

@@ -20,6 +20,8 @@ status_of NotBuilt = 9
 abbrev pub name_of : Limited → List ℕ
 name_of limited.Elf = codes "elf"
 name_of limited.Input = codes "input"
+name_of limited.Record = codes "record"
+name_of limited.Shards = codes "shards"
 
 abbrev pub line_of : Fault → List ℕ
 line_of Words = line (codes "fault words")

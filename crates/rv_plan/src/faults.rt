@@ -9,11 +9,17 @@ use rv_base::{NoMemory, Text};
 use rv_elf::ElfFault;
 use std::alloc::{AllocError, Global};
 
-/// A file that is held to a limit.
+/// What is held to a limit.
 #[derive(Clone, Copy, Debug)]
 pub enum Limited {
+    /// 67,108,864 bytes of an ELF file.
     Elf,
+    /// 16,777,216 bytes of an input.
     Input,
+    /// 2,147,483,648 bytes of a record that is held whole.
+    Record,
+    /// 65,536 shards of a run.
+    Shards,
 }
 
 /// Why a command ended without doing its work.
@@ -31,7 +37,7 @@ pub enum Fault {
     Write,
     /// Want of memory.
     Memory,
-    /// A file is above its limit.
+    /// A file, or what a run needs, is above its limit.
     Limit(Limited),
     /// The program can't do this yet.
     NotBuilt,
@@ -66,6 +72,8 @@ impl Fault {
             Fault::Memory => Some("fault memory\n"),
             Fault::Limit(Limited::Elf) => Some("fault limit elf\n"),
             Fault::Limit(Limited::Input) => Some("fault limit input\n"),
+            Fault::Limit(Limited::Record) => Some("fault limit record\n"),
+            Fault::Limit(Limited::Shards) => Some("fault limit shards\n"),
             Fault::NotBuilt => Some("fault notbuilt\n"),
         }
     }

@@ -7,8 +7,9 @@ use Rattle.rv_spec.proofs.Computes.{computes}
 use Rattle.rv_spec.proofs.RecordExample.{elf}
 use Rattle.rv_host.specs.Files.{Files}
 use Rattle.rv_tool.specs.Lines.{made_line, ran_line}
-use Rattle.rv_tool.specs.Outcome.{outcome, refuses, ends_within}
-use Rattle.rv_tool.specs.declared.faults.Fault.TheVariants.{Words, Budget}
+use Rattle.rv_plan.specs.Plan.{refuses}
+use Rattle.rv_tool.specs.Outcome.{outcome, ends_within}
+use Rattle.rv_plan.specs.declared.faults.Fault.TheVariants.{Words, Budget}
 
 abbrev shelf : List ℕ → Files
 shelf program = (codes "elf", program) ∷ (codes "input", []) ∷ []

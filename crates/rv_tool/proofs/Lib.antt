@@ -1,7 +1,4 @@
-pub mod Answering
-pub mod Arguments
-pub mod Fronts
-pub mod Plans
-pub mod Parts
-pub mod Running
-pub mod Examples
+mod Arguments
+mod Listed
+mod Running
+mod Examples

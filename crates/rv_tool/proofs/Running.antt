@@ -4,17 +4,16 @@ use Rattle.rv_base.specs.declared.record.End.{End}
 use Rattle.rv_spec.specs.Elf.{Image, image, first_fault}
 use Rattle.rv_spec.specs.Run.{run as state_of, end_at, GoesOn, EndsIn}
 use Rattle.rv_host.specs.Views.{ShelfView}
-use Rattle.rv_host.specs.Counts.{Rose}
-use Rattle.rv_tool.specs.CommandLine.{MakeWords, RunWords, make, run}
-use Rattle.rv_tool.specs.Lines.{made_line, ran_line}
-use Rattle.rv_tool.specs.Outcome.{Due, Outcome, Plan, answer, refuses, earlier, ends_within, ran, make_plan, run_plan, plan_of, read_program, with_due}
-use Rattle.rv_tool.specs.Endings.{IsMade, Reaches, WriteFails}
-use Rattle.rv_tool.specs.FileCalls.{IsUnchanged, Loads, Performs, Stops, Writes}
-use Rattle.rv_tool.specs.declared.faults.Fault.{Fault}
-use Rattle.rv_tool.specs.declared.faults.Fault.TheVariants.{Budget, Memory, NotBuilt}
-use Rattle.rv_tool.specs.declared.loading.Loaded.{Loaded}
-use Rattle.rv_tool.specs.declared.told.Told.{Told}
-use Rattle.rv_tool.proofs.Plans.{left, reaches_program}
+use Rattle.rv_tool.specs.CommandLine.{RunWords, run}
+use Rattle.rv_tool.specs.Lines.{ran_line}
+use Rattle.rv_plan.specs.Plan.{Outcome, answer, refuses}
+use Rattle.rv_tool.specs.Outcome.{earlier, ends_within, ran, run_plan, plan_of}
+use Rattle.rv_plan.specs.Endings.{Reaches}
+use Rattle.rv_plan.specs.FileCalls.{Loads, Stops}
+use Rattle.rv_plan.specs.declared.faults.Fault.{Fault}
+use Rattle.rv_plan.specs.declared.faults.Fault.TheVariants.{Budget}
+use Rattle.rv_plan.specs.declared.loading.Loaded.{Loaded}
+use Rattle.rv_plan.proofs.Lemmas.{left, reaches_program}
 
 -- ---- the end within a budget
 
@@ -66,37 +65,3 @@ run_reaches w s s' l steps e output h faultless r =
     let i : Image = image w.version l.elf in
     reaches_program w.elf w.input s s' l (run_plan w) (run_outcome w steps e output) h faultless
     (ap (run_outcome w steps e) r.put ∙ sym (ap (ran w i l.input) (found_within i l.input steps w.budget e r.ends r.within)))
-
--- ---- make
-
--- one worker: the plan reads
-plan_alone : (w : MakeWords) → nat_lt 1 w.workers ≡ false → read_program w.elf w.input (make_plan w) ≡ plan_of (make w)
-plan_alone w alone = sym (ap (λ b. if b then answer (refuses NotBuilt) else read_program w.elf w.input (make_plan w)) alone)
-
-pub stops_alone : (w : MakeWords) (s s' : ShelfView) (f : Fault) → nat_lt 1 w.workers ≡ false → Stops (read_program w.elf w.input (make_plan w)) s s' f → Stops (plan_of (make w)) s s' f
-stops_alone w s s' f alone h = subst (λ p. Stops p s s' f) (plan_alone w alone) h
-
-pub team_refused : (w : MakeWords) (s : ShelfView) → nat_lt 1 w.workers ≡ true → Stops (plan_of (make w)) s s NotBuilt
-team_refused w s team =
-    (record { files = refl; writes = λ _. refl }, subst (λ b. Reaches s.files (if b then answer (refuses NotBuilt) else read_program w.elf w.input (make_plan w)) (refuses NotBuilt)) (sym team) refl)
-
-pub make_reaches : (w : MakeWords) (s s' : ShelfView) (l : Loaded) (o : Outcome) → nat_lt 1 w.workers ≡ false → Loads w.elf w.input s s' (Ok l) → first_fault l.elf ≡ None → IsMade w o → Reaches s.files (plan_of (make w)) o
-make_reaches w s s' l o alone h faultless is =
-    subst (λ p. Reaches s.files p o) (plan_alone w alone) (reaches_program w.elf w.input s s' l (make_plan w) o h faultless is)
-
-pub make_stops : (w : MakeWords) (s s' : ShelfView) (l : Loaded) (f : Fault) → nat_lt 1 w.workers ≡ false → Loads w.elf w.input s s' (Ok l) → first_fault l.elf ≡ None
-    → (f ≡ Budget w.budget) ⊎ ((f ≡ NotBuilt) ⊎ (f ≡ Memory)) → Stops (plan_of (make w)) s s' f
-make_stops w s s' l f alone h faultless (inl is) =
-    subst (λ x. Stops (plan_of (make w)) s s' x) (sym is) (left h.0, make_reaches w s s' l (refuses (Budget w.budget)) alone h faultless (inl refl))
-make_stops w s s' l f alone h faultless (inr (inl is)) =
-    subst (λ x. Stops (plan_of (make w)) s s' x) (sym is) (left h.0, make_reaches w s s' l (refuses NotBuilt) alone h faultless (inr (inl refl)))
-make_stops w s s' l f alone h faultless (inr (inr is)) = subst (λ x. Stops (plan_of (make w)) s s' x) (sym is) (stops_alone w s s' Memory alone (left h.0, tt))
-
--- the outcome of a record that is made
-abbrev pub make_outcome : MakeWords → ℕ → ℕ → End → List ℕ → Outcome
-make_outcome w steps shards e bytes = record { status = 0; text = made_line steps shards e (length bytes); writes = (w.target, bytes) ∷ [] }
-
-pub make_done : (w : MakeWords) (s s' : ShelfView) (l : Loaded) (steps shards : ℕ) (e : End) (bytes : List ℕ) → nat_lt 1 w.workers ≡ false → Loads w.elf w.input s s' (Ok l) → first_fault l.elf ≡ None
-    → Reaches s.files (plan_of (make w)) (make_outcome w steps shards e bytes)
-make_done w s s' l steps shards e bytes alone h faultless =
-    make_reaches w s s' l (make_outcome w steps shards e bytes) alone h faultless (inr (inr (bytes, steps, shards, e, refl)))

@@ -22,8 +22,9 @@ number low high text = if is_number text && is_in_range low high (decimal_value 
 
 -- ---- commands
 
--- make ELF INPUT RECORD WORKERS SHARD BUDGET
+-- make ELF INPUT RECORD WORKERS SHARD BUDGET for version 1, make2 for version 2
 pub record MakeWords : Type 0 where
+  pub version : ℕ
   pub elf : List ℕ
   pub input : List ℕ
   pub target : List ℕ
@@ -39,21 +40,48 @@ pub record RunWords : Type 0 where
   pub target : List ℕ
   pub budget : ℕ
 
+-- check ELF INPUT RECORD WORKERS
+pub record CheckWords : Type 0 where
+  pub elf : List ℕ
+  pub input : List ℕ
+  pub file : List ℕ
+  pub workers : ℕ
+
+-- settle ELF INPUT RECORD
+pub record SettleWords : Type 0 where
+  pub elf : List ℕ
+  pub input : List ℕ
+  pub file : List ℕ
+
 -- a command with its numbers read
 pub data CommandWords : Type 0 where
   make : MakeWords → CommandWords
+  check : CheckWords → CommandWords
+  settle : SettleWords → CommandWords
   run : RunWords → CommandWords
 
 -- make with its numbers, where each is one
-abbrev pub make_words : List ℕ → List ℕ → List ℕ → Option ℕ → Option ℕ → Option ℕ → Option CommandWords
-make_words elf input target (Some workers) (Some shard) (Some budget) =
-    Some (make (record { elf = elf; input = input; target = target; workers = workers; shard = shard; budget = budget }))
-make_words elf input target _ _ _ = None
+abbrev pub make_words : ℕ → List ℕ → List ℕ → List ℕ → Option ℕ → Option ℕ → Option ℕ → Option CommandWords
+make_words version elf input target (Some workers) (Some shard) (Some budget) =
+    Some (make (record { version = version; elf = elf; input = input; target = target; workers = workers; shard = shard; budget = budget }))
+make_words version elf input target _ _ _ = None
 
-abbrev pub make_of : List (List ℕ) → Option CommandWords
-make_of (elf ∷ input ∷ target ∷ workers ∷ shard ∷ budget ∷ []) =
-    make_words elf input target (number 1 WORKERS_LIMIT workers) (number 1 SHARD_SIZE_LIMIT shard) (number 1 BUDGET_LIMIT budget)
-make_of _ = None
+abbrev pub make_of : ℕ → List (List ℕ) → Option CommandWords
+make_of version (elf ∷ input ∷ target ∷ workers ∷ shard ∷ budget ∷ []) =
+    make_words version elf input target (number 1 WORKERS_LIMIT workers) (number 1 SHARD_SIZE_LIMIT shard) (number 1 BUDGET_LIMIT budget)
+make_of version _ = None
+
+abbrev pub check_words : List ℕ → List ℕ → List ℕ → Option ℕ → Option CommandWords
+check_words elf input file (Some workers) = Some (check (record { elf = elf; input = input; file = file; workers = workers }))
+check_words elf input file None = None
+
+abbrev pub check_of : List (List ℕ) → Option CommandWords
+check_of (elf ∷ input ∷ file ∷ workers ∷ []) = check_words elf input file (number 1 WORKERS_LIMIT workers)
+check_of _ = None
+
+abbrev pub settle_of : List (List ℕ) → Option CommandWords
+settle_of (elf ∷ input ∷ file ∷ []) = Some (settle (record { elf = elf; input = input; file = file }))
+settle_of _ = None
 
 abbrev pub run_words : ℕ → List ℕ → List ℕ → List ℕ → Option ℕ → Option CommandWords
 run_words version elf input target (Some budget) =
@@ -68,13 +96,16 @@ run_of version _ = None
 abbrev pub command : List (List ℕ) → Option CommandWords
 command [] = None
 command (name ∷ arguments) =
-    if bytes_eq name (codes "make") then make_of arguments
+    if bytes_eq name (codes "make") then make_of 1 arguments
+    else (if bytes_eq name (codes "make2") then make_of 2 arguments
+    else (if bytes_eq name (codes "check") then check_of arguments
+    else (if bytes_eq name (codes "settle") then settle_of arguments
     else (if bytes_eq name (codes "run") then run_of 1 arguments
     else (if bytes_eq name (codes "run2") then run_of 2 arguments
-    else None))
+    else None)))))
 
 -- a command that is given more than one worker
 abbrev pub is_teamwork : Option CommandWords → Bool
 is_teamwork (Some (make w)) = nat_lt 1 w.workers
-is_teamwork (Some (run w)) = false
-is_teamwork None = false
+is_teamwork (Some (check w)) = nat_lt 1 w.workers
+is_teamwork _ = false

@@ -1,21 +1,31 @@
 -- The commands of the program, and the words that spell them.
-use Rattle.std.specs.Prelude.{◌≡◌, Option, Some, None, MatchOption}
+use Rattle.std.specs.Prelude.{◌≡◌, Option, Some, None, MatchOption, ⊤}
 use Rattle.std.specs.Int.{IsInRange}
 use Rattle.rv_base.specs.declared.limits.TheConstants.{BUDGET_LIMIT, SHARD_SIZE_LIMIT, WORKERS_LIMIT}
-use Rattle.rv_tool.specs.CommandLine.{CommandWords, MakeWords, RunWords, make, run}
+use Rattle.rv_tool.specs.CommandLine.{CommandWords, MakeWords, CheckWords, SettleWords, RunWords, make, check, settle, run}
 use Rattle.rv_tool.specs.declared.commands.Command.{Command}
 use Rattle.rv_tool.specs.declared.commands.Command.TheVariants as command
 use Rattle.rv_tool.specs.declared.commands.Make.{Make}
+use Rattle.rv_tool.specs.declared.commands.Check.{Check}
+use Rattle.rv_tool.specs.declared.commands.Settle.{Settle}
 use Rattle.rv_tool.specs.declared.commands.Run.{Run}
 
 abbrev pub make_words : Make → MakeWords
-make_words m = record { elf = m.elf.now; input = m.input.now; target = m.«record».now; workers = m.workers; shard = m.shard; budget = m.budget }
+make_words m = record { version = m.version; elf = m.elf.now; input = m.input.now; target = m.«record».now; workers = m.workers; shard = m.shard; budget = m.budget }
+
+abbrev pub check_words : Check → CheckWords
+check_words c = record { elf = c.elf.now; input = c.input.now; file = c.«record».now; workers = c.workers }
+
+abbrev pub settle_words : Settle → SettleWords
+settle_words c = record { elf = c.elf.now; input = c.input.now; file = c.«record».now }
 
 abbrev pub run_words : Run → RunWords
 run_words r = record { version = r.version; elf = r.elf.now; input = r.input.now; target = r.output.now; budget = r.budget }
 
 abbrev pub words_of : Command → CommandWords
 words_of (command.Make m) = make (make_words m)
+words_of (command.Check c) = check (check_words c)
+words_of (command.Settle c) = settle (settle_words c)
 words_of (command.Run r) = run (run_words r)
 
 -- what was spelled is the command, or none
@@ -24,5 +34,7 @@ IsCommand spelled c = MatchOption c (spelled ≡ None) (λ c. spelled ≡ Some (
 
 -- the numbers of a command are in their ranges
 abbrev pub HasRanges : Command → Type 0
-HasRanges (command.Make m) = IsInRange 1 WORKERS_LIMIT m.workers × IsInRange 1 SHARD_SIZE_LIMIT m.shard × IsInRange 1 BUDGET_LIMIT m.budget
+HasRanges (command.Make m) = IsInRange 1 2 m.version × IsInRange 1 WORKERS_LIMIT m.workers × IsInRange 1 SHARD_SIZE_LIMIT m.shard × IsInRange 1 BUDGET_LIMIT m.budget
+HasRanges (command.Check c) = IsInRange 1 WORKERS_LIMIT c.workers
+HasRanges (command.Settle c) = ⊤
 HasRanges (command.Run r) = IsInRange 1 2 r.version × IsInRange 1 BUDGET_LIMIT r.budget

@@ -1,8 +1,6 @@
-pub mod Answers
 pub mod CommandLine
 pub mod Commands
-pub mod Endings
-pub mod FileCalls
-pub mod Faults
 pub mod Lines
+pub mod Differing
 pub mod Outcome
+pub mod Headline

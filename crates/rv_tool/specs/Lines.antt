@@ -1,9 +1,9 @@
--- The lines that commands print: numbers are decimal, and each line ends with a newline (this project's own).
-use Rattle.std.specs.Prelude.{ℕ, ◌-◌, List, [], ◌∷◌, ◌++◌, codes, decimal, ◌==◌, if◌then◌else◌}
+-- The lines of commands that did their work: numbers are decimal (this project's own).
+use Rattle.std.specs.Prelude.{ℕ, List, [], ◌∷◌, ◌++◌, codes, decimal}
 use Rattle.rv_base.specs.declared.record.End.{End}
-
-abbrev pub line : List ℕ → List ℕ
-line text = text ++ 10 ∷ []
+use Rattle.rv_base.specs.declared.record.Refusal.{Refusal}
+use Rattle.rv_base.specs.declared.record.Tuple.{Tuple}
+use Rattle.rv_plan.specs.Lines.{line, name_at}
 
 -- a space, a name, an equals sign and a number
 abbrev pub field : List ℕ → ℕ → List ℕ
@@ -19,23 +19,26 @@ made_line steps shards e bytes =
 abbrev pub ran_line : ℕ → End → ℕ → List ℕ
 ran_line steps e output = line (codes "ran" ++ field (codes "steps") steps ++ end_fields e ++ field (codes "output") output)
 
--- the name at a number, from 1 on
-abbrev pub name_at : List (List ℕ) → ℕ → List ℕ
-name_at [] n = []
-name_at (x ∷ xs) n = if n == 1 then x else name_at xs (n - 1)
+abbrev pub accepted_line : ℕ → ℕ → End → List ℕ
+accepted_line steps shards e = line (codes "accepted" ++ field (codes "steps") steps ++ field (codes "shards") shards ++ end_fields e)
 
--- the faults of an ELF file in order of their numbers
-abbrev pub fault_names : List (List ℕ)
-fault_names =
-    codes "Short" ∷ codes "Magic" ∷ codes "Class" ∷ codes "Order" ∷ codes "Version" ∷ codes "Kind" ∷ codes "Machine"
-    ∷ codes "HeaderSize" ∷ codes "Headers" ∷ codes "Interpreter" ∷ codes "SegmentFile" ∷ codes "SegmentSize" ∷ codes "SegmentWrap"
-    ∷ codes "TooMany" ∷ codes "Overlap" ∷ codes "Entry" ∷ []
+-- the rules of the verdict in order of their numbers
+abbrev pub rule_names : List (List ℕ)
+rule_names =
+    codes "Short" ∷ codes "Magic" ∷ codes "Program" ∷ codes "Input" ∷ codes "ShardSize" ∷ codes "Counts" ∷ codes "EndKind" ∷ codes "OutputLength"
+    ∷ codes "ShardHead" ∷ codes "RowShape" ∷ codes "Pc" ∷ codes "Slot" ∷ codes "Cell" ∷ codes "Value" ∷ codes "TimeOrder" ∷ codes "Next"
+    ∷ codes "OutputByte" ∷ codes "EndsEarly" ∷ codes "EndOther" ∷ codes "RowBytes" ∷ codes "ShardDigest" ∷ codes "TableOrder" ∷ codes "TableCell"
+    ∷ codes "TableTime" ∷ codes "Left" ∷ codes "Balance" ∷ codes "Trailing" ∷ []
 
-abbrev pub elf_line : ℕ → List ℕ
-elf_line n = line (codes "fault elf " ++ decimal n ++ 32 ∷ name_at fault_names n)
+-- where a check is broken: the shard, the row, the rule and its name
+abbrev pub refused_line : Refusal → List ℕ
+refused_line r =
+    line (codes "refused" ++ field (codes "shard") r.shard ++ field (codes "row") r.row ++ field (codes "rule") r.rule ++ 32 ∷ name_at rule_names r.rule)
 
-abbrev pub budget_line : ℕ → List ℕ
-budget_line budget = line (codes "fault budget " ++ decimal budget)
+abbrev pub settled_line : ℕ → List ℕ
+settled_line steps = line (codes "settled run" ++ field (codes "steps") steps)
 
-abbrev pub limit_line : List ℕ → List ℕ
-limit_line what = line (codes "fault limit " ++ what)
+-- the least tuple that differs, how often it is read and how often it is written
+abbrev pub collision_line : Tuple → ℕ → ℕ → List ℕ
+collision_line t reads writes =
+    line (codes "settled collision" ++ field (codes "cell") t.cell ++ field (codes "value") t.value ++ field (codes "time") t.time ++ field (codes "reads") reads ++ field (codes "writes") writes)

@@ -3,7 +3,7 @@
 ghost use Rattle.std.specs.Prelude.{map, string_bytes, IfSome};
 ghost use Rattle.std.specs.Int.{IsInRange};
 ghost use Rattle.rv_tool.specs.Commands.{HasRanges, IsCommand};
-ghost use Rattle.rv_tool.specs.CommandLine.{command, make_of, run_of};
+ghost use Rattle.rv_tool.specs.CommandLine.{check_of, command, make_of, run_of, settle_of};
 
 use crate::numbers::number;
 use rv_base::limits::{BUDGET_LIMIT, SHARD_SIZE_LIMIT, WORKERS_LIMIT};
@@ -12,12 +12,16 @@ use rv_base::limits::{BUDGET_LIMIT, SHARD_SIZE_LIMIT, WORKERS_LIMIT};
 #[derive(Clone, Copy, Debug)]
 pub enum Command<'a> {
     Make(Make<'a>),
+    Check(Check<'a>),
+    Settle(Settle<'a>),
     Run(Run<'a>),
 }
 
-/// `make ELF INPUT RECORD WORKERS SHARD BUDGET`: writes the record of a run.
+/// `make ELF INPUT RECORD WORKERS SHARD BUDGET`: writes the record of a run. `make2` does so for version 2.
 #[derive(Clone, Copy, Debug)]
 pub struct Make<'a> {
+    /// 1 for RV32IM, 2 for RV32IMA.
+    pub version: u8,
     pub elf: &'a str,
     pub input: &'a str,
     pub record: &'a str,
@@ -27,6 +31,24 @@ pub struct Make<'a> {
     pub shard: u32,
     /// 1 to 8,388,608 steps, the ending one counted.
     pub budget: u32,
+}
+
+/// `check ELF INPUT RECORD WORKERS`: tells the verdict on a record.
+#[derive(Clone, Copy, Debug)]
+pub struct Check<'a> {
+    pub elf: &'a str,
+    pub input: &'a str,
+    pub record: &'a str,
+    /// 1 to 64 workers.
+    pub workers: u32,
+}
+
+/// `settle ELF INPUT RECORD`: tells whether an accepted record is that of the run, or a collision.
+#[derive(Clone, Copy, Debug)]
+pub struct Settle<'a> {
+    pub elf: &'a str,
+    pub input: &'a str,
+    pub record: &'a str,
 }
 
 /// `run ELF INPUT OUTPUT BUDGET`: writes what a program puts on standard output. `run2` does so for version 2.
@@ -50,15 +72,19 @@ pub fn parse(words: &[String]) -> Option<Command<'_>>
         return None;
     };
     match name.as_str() {
-        "make" => parse_make(arguments),
+        "make" => parse_make(1, arguments),
+        "make2" => parse_make(2, arguments),
+        "check" => parse_check(arguments),
+        "settle" => parse_settle(arguments),
         "run" => parse_run(1, arguments),
         "run2" => parse_run(2, arguments),
         _ => None,
     }
 }
 
-fn parse_make(arguments: &[String]) -> Option<Command<'_>>
-    ensures command { IsCommand (make_of (map string_bytes arguments.now)) result }
+fn parse_make(version: u8, arguments: &[String]) -> Option<Command<'_>>
+    requires { IsInRange 1 2 version }
+    ensures command { IsCommand (make_of version (map string_bytes arguments.now)) result }
     ensures ranges { IfSome result HasRanges }
 {
     let [elf, input, record, workers, shard, budget] = arguments else {
@@ -68,12 +94,43 @@ fn parse_make(arguments: &[String]) -> Option<Command<'_>>
     let shard = number(shard.as_str(), 1, SHARD_SIZE_LIMIT)?;
     let budget = number(budget.as_str(), 1, BUDGET_LIMIT)?;
     Some(Command::Make(Make {
+        version,
         elf: elf.as_str(),
         input: input.as_str(),
         record: record.as_str(),
         workers,
         shard,
         budget,
+    }))
+}
+
+fn parse_check(arguments: &[String]) -> Option<Command<'_>>
+    ensures command { IsCommand (check_of (map string_bytes arguments.now)) result }
+    ensures ranges { IfSome result HasRanges }
+{
+    let [elf, input, record, workers] = arguments else {
+        return None;
+    };
+    let workers = number(workers.as_str(), 1, WORKERS_LIMIT)?;
+    Some(Command::Check(Check {
+        elf: elf.as_str(),
+        input: input.as_str(),
+        record: record.as_str(),
+        workers,
+    }))
+}
+
+fn parse_settle(arguments: &[String]) -> Option<Command<'_>>
+    ensures command { IsCommand (settle_of (map string_bytes arguments.now)) result }
+    ensures ranges { IfSome result HasRanges }
+{
+    let [elf, input, record] = arguments else {
+        return None;
+    };
+    Some(Command::Settle(Settle {
+        elf: elf.as_str(),
+        input: input.as_str(),
+        record: record.as_str(),
     }))
 }
 

@@ -1,23 +1,21 @@
 //! Fuzakhi: records the run of a RISC-V program, so that others can check it.
 #![tactic(auto)]
 
+mod check;
 mod commands;
-mod faults;
-mod loading;
+mod lines;
 mod make;
 mod numbers;
 mod run;
-mod scaffold;
+mod settle;
 #[cfg(test)]
 mod tests;
-mod told;
 mod top;
-mod writing;
 
 use rv_host::{OpenGate, RealShelf, RealSink};
+use rv_plan::print_no_memory;
 use std::process::ExitCode;
 use std::{env, io};
-use top::print_no_memory;
 pub use top::{needs_team, tool, tool_one};
 
 /// The status where the system doesn't give the words of the command line as text.

@@ -3,29 +3,26 @@
 ghost use Rattle.std.specs.Prelude.{IfOk, IfErr, ◌≡◌};
 ghost use Rattle.rv_tool.specs.CommandLine as command;
 ghost use Rattle.rv_tool.specs.Commands.{run_words};
-ghost use Rattle.rv_tool.specs.FileCalls.{Performs};
+ghost use Rattle.rv_plan.specs.FileCalls.{Performs};
 ghost use Rattle.rv_tool.specs.Outcome.{plan_of};
-ghost use Rattle.rv_tool.specs.Lines.{ran_line as ran_line_of};
 ghost use Rattle.std.specs.Int.{IsInRange};
 ghost use Rattle.rv_spec.specs.Run.{GoesOn};
 ghost use Rattle.rv_isa.specs.Machine.{IsRunOf};
 ghost use Rattle.rv_isa.specs.declared.machine.RunStop.TheVariants as stops;
 
 use crate::commands::Run;
-use crate::faults::Fault;
-use crate::loading::{image_of, load};
-use crate::told::Told;
-use crate::writing::{DueFile, write_files};
-use rv_base::{End, NoMemory, Text};
+use crate::lines::ran_line;
+use rv_base::limits::BUDGET_LIMIT;
 use rv_elf::Image;
 use rv_host::Shelf;
 use rv_isa::{Machine, Ran, RunStop};
+use rv_plan::{DueFile, Fault, Told, image_of, load, write_files};
 use std::alloc::Global;
 
 /// Runs the program, writes its output to a file, and tells of it. All memory is taken before the file is touched.
 pub fn run<S: Shelf>(alloc: Global, words: &Run<'_>, shelf: &mut S) -> Result<Told, Fault>
     requires version { IsInRange 1 2 words.now.version }
-    requires budget { IsInRange 1 8388608 words.now.budget }
+    requires budget { IsInRange 1 BUDGET_LIMIT words.now.budget }
     ensures { Performs (plan_of (command.run (run_words words.now))) (S.view shelf.old) (S.view shelf.new) result }
 {
     let loaded = load(alloc, shelf, words.elf, words.input)?;
@@ -49,21 +46,9 @@ pub fn run<S: Shelf>(alloc: Global, words: &Run<'_>, shelf: &mut S) -> Result<To
 
 /// Runs a program on an input. Budget comes exactly where the run doesn't end within so many steps.
 fn run_image(alloc: Global, image: &Image<'_>, input: &[u8], budget: u32) -> Result<Ran, RunStop>
-    requires { IsInRange 1 8388608 budget }
+    requires { IsInRange 1 BUDGET_LIMIT budget }
     ensures ok { IfOk result (IsRunOf image.now input.now budget) }
     ensures err { IfErr result (λ stop. stop ≡ stops.Budget → GoesOn image.now input.now budget) }
 {
     Machine::start(alloc, image, input).run(u64::from(budget))
-}
-
-/// The line of a run of so many steps that put so many bytes.
-fn ran_line(alloc: Global, steps: u64, end: End, output: usize) -> Result<Text, NoMemory>
-    ensures { IfOk result (λ text. text ≡ ran_line_of steps end output) }
-{
-    let kind = end.kind;
-    let code = end.code;
-    match format!(in alloc; "ran steps={steps} end={kind} code={code} output={output}\n") {
-        Ok(text) => Ok(Text::of(text)),
-        Err(_) => Err(NoMemory),
-    }
 }

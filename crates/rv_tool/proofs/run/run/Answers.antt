@@ -5,11 +5,11 @@ use Rattle.rv_spec.specs.Elf.{first_fault, image}
 use Rattle.rv_spec.specs.Run.{GoesOn}
 use Rattle.rv_tool.specs.Commands.{run_words}
 use Rattle.rv_tool.specs.CommandLine.{run}
-use Rattle.rv_tool.specs.declared.faults.Fault.TheVariants.{Elf}
+use Rattle.rv_plan.specs.declared.faults.Fault.TheVariants.{Elf}
 use Rattle.rv_tool.specs.Lines.{ran_line}
 use Rattle.rv_tool.specs.Outcome.{plan_of, run_plan}
-use Rattle.rv_tool.proofs.Plans.{handed_on, image_refused}
-use Rattle.rv_tool.proofs.Running.{as_run, performs_done, performs_torn, run_outcome, run_over_budget, run_reaches}
+use Rattle.rv_plan.proofs.Lemmas.{handed_on, image_refused, performs_done, performs_torn}
+use Rattle.rv_tool.proofs.Running.{as_run, run_outcome, run_over_budget, run_reaches}
 use Rattle.rv_tool.proofs.run.run.Goals as goal
 
 pub returns-in_err-loaded : goal.returns-in_err-loaded

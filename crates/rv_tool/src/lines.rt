@@ -1,0 +1,137 @@
+//! The lines of commands that did their work, and of records that are refused.
+
+ghost use Rattle.std.specs.Prelude.{◌≡◌, IfOk};
+ghost use Rattle.std.specs.Int.{IsInRange};
+ghost use Rattle.rv_base.specs.declared.rules.TheConstants.{SHORT as FIRST_RULE, TRAILING as LAST_RULE};
+ghost use Rattle.rv_plan.specs.Lines.{name_at};
+ghost use Rattle.rv_tool.specs.Lines as lines;
+ghost use Rattle.rv_tool.specs.Lines.{rule_names};
+
+use rv_base::rules::*;
+use rv_base::{End, NoMemory, Refusal, Text, Tuple};
+use std::alloc::Global;
+
+/// The line of a record of so many steps, shards and bytes.
+pub fn made_line(
+    alloc: Global,
+    steps: u64,
+    shards: u32,
+    end: End,
+    bytes: u64,
+) -> Result<Text, NoMemory>
+    ensures { IfOk result (λ text. text ≡ lines.made_line steps shards end bytes) }
+{
+    let kind = end.kind;
+    let code = end.code;
+    match format!(in alloc;
+        "made steps={steps} shards={shards} end={kind} code={code} bytes={bytes}\n"
+    ) {
+        Ok(text) => Ok(Text::of(text)),
+        Err(_) => Err(NoMemory),
+    }
+}
+
+/// The line of a run of so many steps that put so many bytes.
+pub fn ran_line(alloc: Global, steps: u64, end: End, output: usize) -> Result<Text, NoMemory>
+    ensures { IfOk result (λ text. text ≡ lines.ran_line steps end output) }
+{
+    let kind = end.kind;
+    let code = end.code;
+    match format!(in alloc; "ran steps={steps} end={kind} code={code} output={output}\n") {
+        Ok(text) => Ok(Text::of(text)),
+        Err(_) => Err(NoMemory),
+    }
+}
+
+/// The line of a record that is accepted.
+pub fn accepted_line(alloc: Global, steps: u64, shards: u32, end: End) -> Result<Text, NoMemory>
+    ensures { IfOk result (λ text. text ≡ lines.accepted_line steps shards end) }
+{
+    let kind = end.kind;
+    let code = end.code;
+    match format!(in alloc; "accepted steps={steps} shards={shards} end={kind} code={code}\n") {
+        Ok(text) => Ok(Text::of(text)),
+        Err(_) => Err(NoMemory),
+    }
+}
+
+/// The line of a record that is refused.
+pub fn refused_line(alloc: Global, refusal: Refusal) -> Result<Text, NoMemory>
+    ensures { IfOk result (λ text. text ≡ lines.refused_line refusal) }
+{
+    let shard = refusal.shard;
+    let row = refusal.row;
+    let rule = refusal.rule;
+    let name = rule_name(rule);
+    match format!(in alloc; "refused shard={shard} row={row} rule={rule} {name}\n") {
+        Ok(text) => Ok(Text::of(text)),
+        Err(_) => Err(NoMemory),
+    }
+}
+
+/// The line of an accepted record whose two lists are one multiset.
+pub fn settled_line(alloc: Global, steps: u64) -> Result<Text, NoMemory>
+    ensures { IfOk result (λ text. text ≡ lines.settled_line steps) }
+{
+    match format!(in alloc; "settled run steps={steps}\n") {
+        Ok(text) => Ok(Text::of(text)),
+        Err(_) => Err(NoMemory),
+    }
+}
+
+/// The line of an accepted record whose two lists differ: the least tuple that does, how often it is read
+/// and how often it is written.
+pub fn collision_line(
+    alloc: Global,
+    tuple: Tuple,
+    reads: u64,
+    writes: u64,
+) -> Result<Text, NoMemory>
+    ensures { IfOk result (λ text. text ≡ lines.collision_line tuple reads writes) }
+{
+    let cell = tuple.cell;
+    let value = tuple.value;
+    let time = tuple.time;
+    match format!(in alloc;
+        "settled collision cell={cell} value={value} time={time} reads={reads} writes={writes}\n"
+    ) {
+        Ok(text) => Ok(Text::of(text)),
+        Err(_) => Err(NoMemory),
+    }
+}
+
+/// The name of a rule of the verdict, as the line of a refusal prints it. A number of no rule has none.
+fn rule_name(rule: u8) -> &'static str
+    ensures { result.now ≡ name_at rule_names rule }
+{
+    match rule {
+        SHORT => "Short",
+        MAGIC => "Magic",
+        PROGRAM => "Program",
+        INPUT => "Input",
+        SHARD_SIZE => "ShardSize",
+        COUNTS => "Counts",
+        END_KIND => "EndKind",
+        OUTPUT_LENGTH => "OutputLength",
+        SHARD_HEAD => "ShardHead",
+        ROW_SHAPE => "RowShape",
+        PC => "Pc",
+        SLOT => "Slot",
+        CELL => "Cell",
+        VALUE => "Value",
+        TIME_ORDER => "TimeOrder",
+        NEXT => "Next",
+        OUTPUT_BYTE => "OutputByte",
+        ENDS_EARLY => "EndsEarly",
+        END_OTHER => "EndOther",
+        ROW_BYTES => "RowBytes",
+        SHARD_DIGEST => "ShardDigest",
+        TABLE_ORDER => "TableOrder",
+        TABLE_CELL => "TableCell",
+        TABLE_TIME => "TableTime",
+        LEFT => "Left",
+        BALANCE => "Balance",
+        TRAILING => "Trailing",
+        _ => "",
+    }
+}
