@@ -2,3 +2,4 @@ mod Arguments
 mod Listed
 mod Running
 mod Examples
+mod Differing

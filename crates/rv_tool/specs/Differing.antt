@@ -1,5 +1,6 @@
 -- The least tuple at which two lists differ as multisets.
-use Rattle.std.specs.Prelude.{ℕ, Bool, not, ◌&&◌, ◌||◌, List, [], ◌∷◌, ◌++◌, filter, fold, Option, Some, None, nat_lt, ◌==◌, if◌then◌else◌}
+use Rattle.std.specs.Prelude.{ℕ, Bool, not, ◌&&◌, ◌||◌, List, ◌++◌, filter, find, Option, nat_lt, ◌==◌}
+use Rattle.std.specs.List.{list_all}
 use Rattle.rv_base.specs.declared.record.Tuple.{Tuple}
 use Rattle.rv_spec.specs.Multiset.{count}
 
@@ -7,14 +8,10 @@ use Rattle.rv_spec.specs.Multiset.{count}
 abbrev pub is_before : Tuple → Tuple → Bool
 is_before t u = nat_lt t.cell u.cell || t.cell == u.cell && (nat_lt t.value u.value || t.value == u.value && nat_lt t.time u.time)
 
--- the least of some tuples
-abbrev pub least : List Tuple → Option Tuple
-least [] = None
-least (t ∷ ts) = Some (fold (λ u v. if is_before v u then v else u) t ts)
-
--- the tuples that stand more often in one list than in the other
+-- the tuples that don't stand equally often in both lists
 abbrev pub differing : List Tuple → List Tuple → List Tuple
 differing xs ys = filter (λ t. not (count t xs == count t ys)) (xs ++ ys)
 
+-- the one before which no other stands
 unfoldable pub least_differing : List Tuple → List Tuple → Option Tuple
-least_differing xs ys = least (differing xs ys)
+least_differing xs ys = find (λ t. list_all (λ u. not (is_before u t)) (differing xs ys)) (differing xs ys)
