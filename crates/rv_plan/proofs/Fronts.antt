@@ -17,11 +17,10 @@ more file bytes piece old count front fits read =
     ap (λ xs. xs ++ take count piece) front ∙ ap (λ ys. take (length bytes) file ++ ys) read.bytes ∙ sym (take-add (length bytes) count file) ∙ ap (λ n. take n file) (sym size)
 
 pub front_more : (files before : Option Files) (name bytes piece old : List ℕ) (at count : ℕ) → files ≡ before → at ≡ length bytes → count ≤ length piece
-    → ((told : Files) → before ≡ Some told → bytes ≡ take (length bytes) (file told name))
     → IfSome files (λ told. Reads (file told name) at count old piece)
-    → (told : Files) → before ≡ Some told → bytes ++ take count piece ≡ take (length (bytes ++ take count piece)) (file told name)
-front_more files before name bytes piece old at count same place fits front read told is =
-    more (file told name) bytes piece old count (front told is) fits (subst (λ n. Reads (file told name) n count old piece) place (at_told (λ t. Reads (file t name) at count old piece) files before told same is read))
+    → (told : Files) → before ≡ Some told → bytes ≡ take (length bytes) (file told name) → bytes ++ take count piece ≡ take (length (bytes ++ take count piece)) (file told name)
+front_more files before name bytes piece old at count same place fits read told is front =
+    more (file told name) bytes piece old count front fits (subst (λ n. Reads (file told name) n count old piece) place (at_told (λ t. Reads (file t name) at count old piece) files before told same is read))
 
 whole : (file bytes : List ℕ) (limit : ℕ) → bytes ≡ take (length bytes) file → length file ≤ length bytes → length bytes ≤ limit → bytes ≡ take limit file
 whole file bytes limit front all within = front ∙ take_all (length bytes) file all ∙ sym (take_all limit file (omega arith))
@@ -32,15 +31,12 @@ ended file bytes piece old count limit none room front within (inr all) = whole 
 
 -- no bytes are left
 pub front_whole : (files before : Option Files) (name bytes piece old : List ℕ) (at count limit : ℕ) → files ≡ before → at ≡ length bytes → count ≡ 0 → length old ≢ 0 → length bytes ≤ limit
-    → ((told : Files) → before ≡ Some told → bytes ≡ take (length bytes) (file told name))
     → IfSome files (λ told. Reads (file told name) at count old piece)
-    → (told : Files) → before ≡ Some told → bytes ≡ take limit (file told name)
-front_whole files before name bytes piece old at count limit same place none room within front read told is =
-    ended (file told name) bytes piece old count limit none room (front told is) within
+    → (told : Files) → before ≡ Some told → bytes ≡ take (length bytes) (file told name) → bytes ≡ take limit (file told name)
+front_whole files before name bytes piece old at count limit same place none room within read told is front =
+    ended (file told name) bytes piece old count limit none room front within
     (subst (λ n. (length old ≡ 0) ⊎ (length (file told name) ≤ n)) place ((at_told (λ t. Reads (file t name) at count old piece) files before told same is read).none none))
 
 -- all bytes up to the limit are read
-pub front_filled : (before : Option Files) (name bytes : List ℕ) (limit : ℕ) → length bytes ≡ limit
-    → ((told : Files) → before ≡ Some told → bytes ≡ take (length bytes) (file told name))
-    → (told : Files) → before ≡ Some told → bytes ≡ take limit (file told name)
-front_filled before name bytes limit size front told is = front told is ∙ ap (λ n. take n (file told name)) size
+pub front_filled : (file bytes : List ℕ) (limit : ℕ) → length bytes ≡ limit → bytes ≡ take (length bytes) file → bytes ≡ take limit file
+front_filled file bytes limit size front = front ∙ ap (λ n. take n file) size

@@ -1,5 +1,5 @@
 -- Plans that read a program: where they stop, and what they reach.
-use Rattle.std.proofs.Common.{◌≡◌, ℕ, ◌<◌, ◌≤◌, ◌+◌, inl, inr, List, length, take, Option, Some, None, Ok, Err, Result, refl, sym, subst, ap, ◌∙◌, arith, if◌then◌else◌}
+use Rattle.std.proofs.Common.{◌≡◌, ℕ, ◌<◌, ◌≤◌, ◌+◌, inl, inr, List, length, take, Option, Some, None, Ok, Err, Result, option_map, refl, sym, subst, ap, ◌∙◌, arith, if◌then◌else◌}
 use Rattle.std.proofs.lemmas.Bool.{lt-ltb, le-ltb}
 use Rattle.std.proofs.lemmas.List.{length-take, take_all}
 use Rattle.std.specs.Result.{IsErrAnd}
@@ -11,14 +11,15 @@ use Rattle.rv_elf.specs.declared.fault.ElfFault.{ElfFault}
 use Rattle.rv_host.specs.Counts.{Rose}
 use Rattle.rv_host.specs.Files.{Files, file}
 use Rattle.rv_host.specs.Views.{ShelfView}
-use Rattle.rv_plan.specs.Plan.{Outcome, Plan, answer, read_within, read_program, refuses, unless_faulty}
-use Rattle.rv_plan.specs.Endings.{IsContents, Leaves, ReadFails, Reaches}
-use Rattle.rv_plan.specs.FileCalls.{IsUnchanged, Loads, ReadsWithin, Stops}
+use Rattle.rv_plan.specs.Plan.{Due, Outcome, Plan, read, answer, read_within, read_program, refuses, unless_faulty, with_due}
+use Rattle.rv_plan.specs.Endings.{IsContents, Leaves, ReadFails, Reaches, TakesMemory, WriteFails}
+use Rattle.rv_plan.specs.FileCalls.{IsUnchanged, Loads, Performs, ReadsWithin, Stops}
 use Rattle.rv_plan.specs.declared.faults.Fault.{Fault}
 use Rattle.rv_plan.specs.declared.faults.Limited.{Limited}
 use Rattle.rv_plan.specs.declared.faults.Limited.TheVariants as limited
 use Rattle.rv_plan.specs.declared.faults.Fault.TheVariants.{Words, Elf, Budget, Read, Write, Memory, Limit, NotBuilt}
 use Rattle.rv_plan.specs.declared.loading.Loaded.{Loaded}
+use Rattle.rv_plan.specs.declared.told.Told.{Told}
 
 -- an error that is handed on
 pub handed_on : {T : Type 0} (r : Result T Fault) (f : Fault) → IsErrAnd r (λ e. e ≡ f) → r ≡ Err f
@@ -26,6 +27,18 @@ handed_on r f h = let p = err_from_is_err_and r h in p.1 ∙ ap Err p.2
 
 pub left : {s s' : ShelfView} → IsUnchanged s s' → Leaves s s'
 left h = record { files = h.files; writes = h.writes }
+
+-- the views around a write that follows calls which changed nothing
+pub writes_fail : (due : List Due) (s s' s'' : ShelfView) → IsUnchanged s s' → WriteFails due s' s'' → WriteFails due s s''
+writes_fail due s s' s'' same h = record {
+  first = h.first;
+  name = h.name;
+  bytes = h.bytes;
+  last = h.last;
+  order = h.order;
+  rose = subst (λ n. Rose n (s''.write_faults h.name)) (same.writes h.name) h.rose;
+  torn = λ told is. h.torn told (same.files ∙ is);
+}
 
 -- ---- contents
 
@@ -66,15 +79,19 @@ fails_within before after name limit what next bytes within is fails =
 
 -- ---- a program and its input
 
+-- one that couldn't be read, or is above its limit
+pub read_stops : (name : List ℕ) (limit : ℕ) (what : Limited) (s s' : ShelfView) (f : Fault) (next : List ℕ → Plan) → ReadsWithin name limit what s s' (Err f) → Stops (read_within name limit what next) s s' f
+read_stops name limit what s s' Words next h = absurd h
+read_stops name limit what s s' (Elf e) next h = absurd h
+read_stops name limit what s s' (Budget n) next h = absurd h
+read_stops name limit what s s' Read next h = (h.0, inl h.1)
+read_stops name limit what s s' Write next h = absurd h
+read_stops name limit what s s' Memory next h = (h, tt)
+read_stops name limit what s s' (Limit over) next h = (left h.0, reaches_above s.files name limit what over next h.1 h.2)
+read_stops name limit what s s' NotBuilt next h = absurd h
+
 pub elf_refused : (elf input : List ℕ) (before after : ShelfView) (f : Fault) → ReadsWithin elf ELF_LIMIT limited.Elf before after (Err f) → (next : List ℕ → List ℕ → Plan) → Stops (read_program elf input next) before after f
-elf_refused elf input before after Words h next = absurd h
-elf_refused elf input before after (Elf e) h next = absurd h
-elf_refused elf input before after (Budget n) h next = absurd h
-elf_refused elf input before after Read h next = (h.0, inl h.1)
-elf_refused elf input before after Write h next = absurd h
-elf_refused elf input before after Memory h next = (h, tt)
-elf_refused elf input before after (Limit over) h next = (left h.0, reaches_above before.files elf ELF_LIMIT limited.Elf over _ h.1 h.2)
-elf_refused elf input before after NotBuilt h next = absurd h
+elf_refused elf input before after f h next = read_stops elf ELF_LIMIT limited.Elf before after f _ h
 
 -- what is left after two calls, of which the first changed nothing
 after_both : (before middle after : ShelfView) → IsUnchanged before middle → Leaves middle after → Leaves before after
@@ -125,3 +142,55 @@ pub image_refused : (elf input : List ℕ) (s s' : ShelfView) (l : Loaded) (next
     → (e : ElfFault) × (f ≡ Elf e) × (first_fault l.elf ≡ Some (number_of e)) → Stops (read_program elf input next) s s' f
 image_refused elf input s s' l next f h k =
     subst (λ x. Stops (read_program elf input next) s s' x) (sym k.1) (left h.0, reaches_judged elf input s s' l next (refuses (Elf k.0)) (Some (number_of k.0)) h k.2 refl)
+
+-- ---- behind a program and its input
+
+-- what is left after calls that changed nothing and then by others
+leaves_behind : {s s' s'' : ShelfView} → IsUnchanged s s' → Leaves s' s'' → Leaves s s''
+leaves_behind {s} {s'} {s''} same h = after_both s s' s'' same h
+
+reaches_before : {s s' : ShelfView} (p : Plan) (o : Outcome) → IsUnchanged s s' → Reaches s'.files p o → Reaches s.files p o
+reaches_before p o same h = subst (λ files. Reaches files p o) same.files h
+
+fails_before : (s s' s'' : ShelfView) (p : Plan) → IsUnchanged s s' → ReadFails s' s'' p → ReadFails s s'' p
+fails_before s s' s'' (read name next) same (inl rose) = inl (subst (λ n. Rose n (s''.read_faults name)) (same.reads name) rose)
+fails_before s s' s'' (read name next) same (inr h) = inr (h.0, subst (λ files. IsContents files name h.0) same.files h.1, fails_before s s' s'' (next h.0) same h.2)
+fails_before s s' s'' (answer o) same h = h
+
+-- what a plan stops for behind files that were read, the plan that reads them stops for
+lift_stops : (s s' s'' : ShelfView) (p q : Plan) (f : Fault) → IsUnchanged s s' → TakesMemory q → ((o : Outcome) → Reaches s.files p o → Reaches s.files q o) → (ReadFails s s'' p → ReadFails s s'' q) → Stops p s' s'' f → Stops q s s'' f
+lift_stops s s' s'' p q Words same takes on fails h = (leaves_behind same h.0, on (refuses Words) (reaches_before p (refuses Words) same h.1))
+lift_stops s s' s'' p q (Elf e) same takes on fails h = (leaves_behind same h.0, on (refuses (Elf e)) (reaches_before p (refuses (Elf e)) same h.1))
+lift_stops s s' s'' p q (Budget n) same takes on fails h = (leaves_behind same h.0, on (refuses (Budget n)) (reaches_before p (refuses (Budget n)) same h.1))
+lift_stops s s' s'' p q Read same takes on fails h = (leaves_behind same h.0, fails (fails_before s s' s'' p same h.1))
+lift_stops s s' s'' p q Write same takes on fails h = (h.0, on h.0 (reaches_before p h.0 same h.1), writes_fail h.0.writes s s' s'' same h.2)
+lift_stops s s' s'' p q Memory same takes on fails h = (leaves_behind same h.0, takes)
+lift_stops s s' s'' p q (Limit what) same takes on fails h = (leaves_behind same h.0, on (refuses (Limit what)) (reaches_before p (refuses (Limit what)) same h.1))
+lift_stops s s' s'' p q NotBuilt same takes on fails h = (leaves_behind same h.0, on (refuses NotBuilt) (reaches_before p (refuses NotBuilt) same h.1))
+
+lift_performs : (s s' s'' : ShelfView) (p q : Plan) (r : Result Told Fault) → IsUnchanged s s' → TakesMemory q → ((o : Outcome) → Reaches s.files p o → Reaches s.files q o) → (ReadFails s s'' p → ReadFails s s'' q) → Performs p s' s'' r → Performs q s s'' r
+lift_performs s s' s'' p q (Ok told) same takes on fails h = (
+  h.0,
+  on h.0 (reaches_before p h.0 same h.1),
+  h.2,
+  h.3,
+  record { files = h.4.files ∙ ap (option_map (λ fs. with_due fs h.0.writes)) same.files; writes = λ name. h.4.writes name ∙ same.writes name },
+)
+lift_performs s s' s'' p q (Err f) same takes on fails h = lift_stops s s' s'' p q f same takes on fails h
+
+fails_judged : (elf input : List ℕ) (s s' s'' : ShelfView) (l : Loaded) (next : List ℕ → List ℕ → Plan) → Loads elf input s s' (Ok l) → first_fault l.elf ≡ None → ReadFails s s'' (next l.elf l.input) → ReadFails s s'' (read_program elf input next)
+fails_judged elf input s s' s'' l next h faultless fails =
+    fails_within s s'' elf ELF_LIMIT limited.Elf _ l.elf h.1 h.3
+    (fails_within s s'' input INPUT_LIMIT limited.Input _ l.input h.2 h.4 (subst (λ f. ReadFails s s'' (unless_faulty f (next l.elf l.input))) (sym faultless) fails))
+
+-- A command that has loaded its program and input goes on as what its plan goes on with.
+pub performs_loaded : (elf input : List ℕ) (s s' s'' : ShelfView) (l : Loaded) (next : List ℕ → List ℕ → Plan) (r : Result Told Fault) → Loads elf input s s' (Ok l) → first_fault l.elf ≡ None
+    → Performs (next l.elf l.input) s' s'' r → Performs (read_program elf input next) s s'' r
+performs_loaded elf input s s' s'' l next r h faultless performs =
+    lift_performs s s' s'' (next l.elf l.input) (read_program elf input next) r h.0 tt (λ o. reaches_program elf input s s' l next o h faultless) (fails_judged elf input s s' s'' l next h faultless) performs
+
+-- A command that has read a file within its limit goes on so too.
+pub performs_read : (name : List ℕ) (limit : ℕ) (what : Limited) (s s' s'' : ShelfView) (bytes : List ℕ) (next : List ℕ → Plan) (r : Result Told Fault) → ReadsWithin name limit what s s' (Ok bytes)
+    → Performs (next bytes) s' s'' r → Performs (read_within name limit what next) s s'' r
+performs_read name limit what s s' s'' bytes next r h performs =
+    lift_performs s s' s'' (next bytes) (read_within name limit what next) r h.0 tt (λ o. reaches_within s.files name limit what next o bytes h.1 h.2) (fails_within s s'' name limit what next bytes h.1 h.2) performs

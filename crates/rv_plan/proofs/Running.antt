@@ -7,18 +7,7 @@ use Rattle.rv_plan.specs.Endings.{Reaches, WriteFails}
 use Rattle.rv_plan.specs.FileCalls.{IsUnchanged, Performs, Stops, Writes}
 use Rattle.rv_plan.specs.declared.faults.Fault.{Fault}
 use Rattle.rv_plan.specs.declared.told.Told.{Told}
-
--- the views around a write that follows calls which changed nothing
-pub writes_fail : (due : List Due) (s s' s'' : ShelfView) → IsUnchanged s s' → WriteFails due s' s'' → WriteFails due s s''
-writes_fail due s s' s'' same h = record {
-  first = h.first;
-  name = h.name;
-  bytes = h.bytes;
-  last = h.last;
-  order = h.order;
-  rose = subst (λ n. Rose n (s''.write_faults h.name)) (same.writes h.name) h.rose;
-  torn = λ told is. h.torn told (same.files ∙ is);
-}
+use Rattle.rv_plan.proofs.Plans.{writes_fail}
 
 pub performs_done : (plan : Plan) (s s' s'' : ShelfView) (told : Told) (o : Outcome) → IsUnchanged s s' → Reaches s.files plan o → told.status ≡ o.status → told.text ≡ o.text → Writes o.writes s' s'' (Ok tt) → Performs plan s s'' (Ok told)
 performs_done plan s s' s'' told o same reached status text wrote =

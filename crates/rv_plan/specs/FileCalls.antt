@@ -1,6 +1,5 @@
 -- What reading and writing whole files leaves on a shelf, by what it answers.
-use Rattle.std.specs.Prelude.{◌≡◌, ◌⊎◌, ℕ, ◌+◌, ◌<◌, ◌≤◌, List, [], ◌∷◌, length, take, Vec, vec_len, Some, Result, Ok, Err}
-use Rattle.std.specs.declared.alloc.Global.{Global}
+use Rattle.std.specs.Prelude.{◌≡◌, ◌⊎◌, ℕ, ◌<◌, ◌≤◌, List, [], ◌∷◌, ◌++◌, length, take, Some, Result, Ok, Err}
 use Rattle.std.specs.List.{flat_map}
 use Rattle.rv_base.specs.declared.limits.TheConstants.{ELF_LIMIT, INPUT_LIMIT}
 use Rattle.rv_host.specs.Counts.{Rose}
@@ -21,13 +20,14 @@ pub record IsUnchanged (before after : ShelfView) : Type 0 where
   pub reads : (name : List ℕ) → after.read_faults name ≡ before.read_faults name
   pub writes : (name : List ℕ) → after.write_faults name ≡ before.write_faults name
 
--- A file is read up to one byte past a limit.
-abbrev pub ReadsUpTo : List ℕ → ℕ → ShelfView → ShelfView → Result (Vec ℕ Global) Fault → Type 0
-ReadsUpTo name limit before after (Ok bytes) =
-    IsUnchanged before after × (vec_len bytes ≤ limit + 1) × ((told : Files) → before.files ≡ Some told → bytes.items ≡ take (limit + 1) (file told name))
-ReadsUpTo name limit before after (Err Read) = Leaves before after × Rose (before.read_faults name) (after.read_faults name)
-ReadsUpTo name limit before after (Err Memory) = Leaves before after
-ReadsUpTo name limit before after (Err _) = ⊥
+-- Bytes of a file behind its first ones are read, until there are so many or the file ends.
+abbrev pub ReadsOn : List ℕ → ℕ → List ℕ → List ℕ → ShelfView → ShelfView → Result Unit Fault → Type 0
+ReadsOn name most old new before after (Ok _) =
+    IsUnchanged before after × (length new ≤ most) × ((more : List ℕ) × (new ≡ old ++ more))
+    × ((told : Files) → before.files ≡ Some told → old ≡ take (length old) (file told name) → new ≡ take most (file told name))
+ReadsOn name most old new before after (Err Read) = Leaves before after × Rose (before.read_faults name) (after.read_faults name)
+ReadsOn name most old new before after (Err Memory) = Leaves before after
+ReadsOn name most old new before after (Err _) = ⊥
 
 -- A file is read whole, where it is within a limit.
 abbrev pub ReadsWithin : List ℕ → ℕ → Limited → ShelfView → ShelfView → Result (List ℕ) Fault → Type 0

@@ -10,7 +10,7 @@ mod told;
 mod writing;
 
 pub use faults::{Fault, Limited};
-pub use loading::{Loaded, image_of, load};
+pub use loading::{Loaded, PIECE, image_of, load, read_on, read_within};
 pub use telling::{print_no_memory, tell};
 pub use told::Told;
 pub use writing::{DueFile, write_files};

@@ -5,7 +5,7 @@ ghost use Rattle.std.specs.Int.{IsInRange};
 ghost use Rattle.rv_spec.specs.Elf.{first_fault, image};
 ghost use Rattle.rv_elf.specs.Faults.{number_of};
 ghost use Rattle.rv_elf.specs.declared.fault.ElfFault.{ElfFault as SomeFault};
-ghost use Rattle.rv_plan.specs.FileCalls.{Loads, ReadsUpTo, ReadsWithin};
+ghost use Rattle.rv_plan.specs.FileCalls.{Loads, ReadsOn, ReadsWithin};
 ghost use Rattle.rv_plan.specs.declared.faults.Fault.TheVariants as fault;
 
 use crate::faults::{Fault, Limited};
@@ -16,7 +16,7 @@ use rv_host::Shelf;
 use std::alloc::Global;
 
 /// The most bytes that one read asks for.
-const PIECE: usize = 65_536;
+pub const PIECE: usize = 65_536;
 
 /// A program's file and its input.
 #[derive(Debug, Drop)]
@@ -35,7 +35,7 @@ pub fn load<S: Shelf>(alloc: Global, shelf: &mut S, elf: &str, input: &str) -> R
 }
 
 /// The bytes of a file that is within a limit.
-fn read_within<S: Shelf>(
+pub fn read_within<S: Shelf>(
     alloc: Global,
     shelf: &mut S,
     name: &str,
@@ -45,47 +45,49 @@ fn read_within<S: Shelf>(
     requires { limit < 2 ^ 32 }
     ensures { ReadsWithin name.now limit what (S.view shelf.old) (S.view shelf.new) result }
 {
-    let bytes = read_whole(alloc, shelf, name, limit)?;
+    let mut bytes = Vec::new(alloc);
+    read_on(alloc, shelf, name, &mut bytes, limit + 1)?;
     if bytes.len() > limit {
         return Err(Fault::Limit(what));
     }
     Ok(Bytes::of(bytes))
 }
 
-/// The bytes of a file, or the first `limit + 1` of a longer one.
-fn read_whole<S: Shelf>(
+/// Reads on behind the first bytes of a file, until there are so many or the file ends.
+pub fn read_on<S: Shelf>(
     alloc: Global,
     shelf: &mut S,
     name: &str,
-    limit: usize,
-) -> Result<Vec<u8>, Fault>
-    requires { limit < 2 ^ 32 }
-    ensures { ReadsUpTo name.now limit (S.view shelf.old) (S.view shelf.new) result }
+    bytes: &mut Vec<u8>,
+    most: usize,
+) -> Result<(), Fault>
+    requires most { most ≤ 2 ^ 32 }
+    requires room { length bytes.old.items ≤ most }
+    ensures { ReadsOn name.now most bytes.old.items bytes.new.items (S.view shelf.old) (S.view shelf.new) result }
 {
     let Ok(mut piece) = vec![in alloc; 0u8; PIECE] else {
         return Err(Fault::Memory);
     };
-    let mut bytes = Vec::new(alloc);
-    while bytes.len() <= limit {
-        let room = (limit + 1 - bytes.len()).min(PIECE);
+    while bytes.len() < most {
+        let room = (most - bytes.len()).min(PIECE);
         let into = &mut piece[..room];
         let Ok(taken) = shelf.read_at(name, bytes.len() as u64, into) else {
             return Err(Fault::Read);
         };
         if taken == 0 {
-            return Ok(bytes);
+            return Ok(());
         }
         let Ok(()) = bytes.extend_from_slice(&into[..taken]) else {
             return Err(Fault::Memory);
         };
     }
-    Ok(bytes)
+    Ok(())
 }
 
 /// The image of a program, in a version of the machine: 1 for RV32IM, 2 for RV32IMA. Else the first fault of its file.
 pub fn image_of(elf: &[u8], version: u8) -> Result<Image<'_>, Fault>
     requires version { IsInRange 1 2 version }
-    requires size { length elf.now ≤ 67108864 }
+    requires size { length elf.now ≤ ELF_LIMIT }
     ensures faultless { IfOk result (λ i. first_fault elf.now ≡ None) }
     ensures image { IfOk result (λ i. i ≡ image version elf.now) }
     ensures fault { IfErr result (λ f. (e : SomeFault) × (f ≡ fault.Elf e) × (first_fault elf.now ≡ Some (number_of e))) }

@@ -1,20 +1,29 @@
-use Rattle.std.proofs.Common.{◌≡◌, ◌≤◌, length, refl, subst, arith}
+use Rattle.std.proofs.Common.{◌≡◌, ◌≤◌, ◌+◌, [], List, ℕ, length, take, Some, refl, sym, subst, arith}
+use Rattle.rv_host.specs.Files.{Files, file}
 use Rattle.rv_plan.proofs.Plans.{contents_above, contents_within}
 use Rattle.rv_plan.proofs.loading.read_within.Goals as goal
 
+-- nothing was read before
+nothing : (bytes whole : List ℕ) → bytes ≡ [] → bytes ≡ take (length bytes) whole
+nothing bytes whole none = rw none refl
+
 pub returns-then-len-limit : goal.returns-then-len-limit
 returns-then-len-limit g c =
-    let size : c.len.result ≡ length c.in_ok-bytes.bytes.items = omega (arith, c.len.ensures, c.in_ok-bytes.bytes.ok.0) in (
-      c.in_ok-bytes.ensures.0,
+    let read = c.in_ok-read_on.ensures in
+    let size : c.len.result ≡ length c.read_on.new.bytes.items = omega (arith, c.len.ensures, c.read_on.new.bytes.ok.0) in (
+      read.0,
       refl,
-      contents_above (g.S.Shelf.view c.args.shelf.now).files c.args.name.now c.in_ok-bytes.bytes.items c.args.limit c.len.result size c.if-len-limit.true c.in_ok-bytes.ensures.2,
+      contents_above (g.S.Shelf.view c.args.shelf.now).files c.args.name.now c.read_on.new.bytes.items c.args.limit c.len.result size c.if-len-limit.true
+          (λ told is. read.3 told is (nothing c.new-bytes.result.items (file told c.args.name.now) c.new-bytes.ensures.items)),
     )
 
 pub returns : goal.returns
 returns g c =
-    let size : c.len.result ≡ length c.in_ok-bytes.bytes.items = omega (arith, c.len.ensures, c.in_ok-bytes.bytes.ok.0) in
+    let read = c.in_ok-read_on.ensures in
+    let size : c.len.result ≡ length c.read_on.new.bytes.items = omega (arith, c.len.ensures, c.read_on.new.bytes.ok.0) in
     rw c.of.ensures (
-      c.in_ok-bytes.ensures.0,
+      read.0,
       subst (λ n. n ≤ c.args.limit) size c.if-len-limit.false,
-      contents_within (g.S.Shelf.view c.args.shelf.now).files c.args.name.now c.in_ok-bytes.bytes.items c.args.limit c.len.result size c.if-len-limit.false c.in_ok-bytes.ensures.2,
+      contents_within (g.S.Shelf.view c.args.shelf.now).files c.args.name.now c.read_on.new.bytes.items c.args.limit c.len.result size c.if-len-limit.false
+          (λ told is. read.3 told is (nothing c.new-bytes.result.items (file told c.args.name.now) c.new-bytes.ensures.items)),
     )
