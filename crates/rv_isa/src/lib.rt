@@ -4,12 +4,14 @@
 mod abi;
 mod accesses;
 mod atomic;
-mod cells;
 mod decoded;
 mod environment;
 mod expected;
+mod finding;
+mod hart;
 mod instructions;
 pub mod laws;
+mod look;
 mod machine;
 mod operands;
 mod step;
@@ -17,5 +19,6 @@ mod step;
 mod tests;
 
 pub use expected::{Expected, expect};
+pub use hart::{Hart, Stepped};
 pub use machine::{Machine, Ran, RunStop, Turn};
 pub use rv_base::{Seen, Touch};
