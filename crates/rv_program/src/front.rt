@@ -38,6 +38,7 @@ fn broken_number(h: &Header) -> Option<u8>
 /// The header, or the first rule that is broken.
 fn checked(program: &Program<'_>, file: &[u8]) -> Result<Header, u8>
     ensures value { IfOk result (λ h. h ≡ header_of file.now) }
+    ensures room { IfOk result (λ h. HEADER_BYTES + h.length ≤ length file.now) }
     ensures rule { (lanes : Lanes) → MatchResult result
         (λ _. first_broken (header_checks true lanes program.now.elf program.now.input file.now) ≡ None)
         (λ rule. first_broken (header_checks true lanes program.now.elf program.now.input file.now) ≡ Some rule) }
