@@ -9,9 +9,7 @@ use crate::program::Program;
 use rv_base::layout::HEADER_BYTES;
 use rv_base::limits::{OUTPUT_LIMIT, SHARD_SIZE_LIMIT, SHARDS_LIMIT};
 use rv_base::machine::{EXIT, MISALIGNED_STORE};
-use rv_base::rules::{
-    COUNTS, END_KIND, INPUT, MAGIC, OUTPUT_LENGTH, PROGRAM, SHARD_SIZE, SHORT,
-};
+use rv_base::rules::{COUNTS, END_KIND, INPUT, MAGIC, OUTPUT_LENGTH, PROGRAM, SHARD_SIZE, SHORT};
 use rv_base::{Header, Refusal};
 use rv_file::read_header;
 

@@ -1,5 +1,7 @@
 //! Worked files: what opening refuses, and the first broken check of a header.
 
+ghost use Rattle.std.specs.Prelude.{◌≡◌};
+
 use super::*;
 use rv_base::End;
 use rv_base::layout::HEADER_BYTES;
@@ -19,6 +21,7 @@ const ELF: [u8; 96] = [
 
 /// The first and the last eight bytes of the SHA-512 of no bytes (FIPS 180-4, as OpenSSL has it).
 const EMPTY_FRONT: [u8; 8] = [0xcf, 0x83, 0xe1, 0x35, 0x7e, 0xef, 0xb8, 0xbd];
+
 const EMPTY_BACK: [u8; 8] = [0xa5, 0x38, 0x32, 0x7a, 0xf9, 0x27, 0xda, 0x3e];
 
 /// The number of what opening refuses, or 0.
@@ -40,8 +43,8 @@ fn opens_a_program(rt: HostRuntime) -> Result<(), Fail> {
     assert_eq!(rt; program.image_of(2).version(), 2);
     assert_eq!(rt; program.image_of(2).word(0x4000), 0x02A0_0513);
     assert!(rt; program.input().is_empty());
-    assert_eq!(rt; program.input_hash()[..8], EMPTY_FRONT);
-    assert_eq!(rt; program.input_hash()[56..], EMPTY_BACK);
+    assert_eq!(rt; &program.input_hash()[..8], EMPTY_FRONT.as_slice());
+    assert_eq!(rt; &program.input_hash()[56..], EMPTY_BACK.as_slice());
     assert!(rt; program.elf_hash() != program.input_hash());
     Ok(())
 }
@@ -66,7 +69,9 @@ fn refuses_what_has_a_fault(rt: HostRuntime) {
 }
 
 /// The header of the record of the program's run on no input, in one shard of three rows.
-fn header_of(program: &Program<'_>) -> Header {
+fn header_of(program: &Program<'_>) -> Header
+    ensures { result.version ≡ 1 }
+{
     Header {
         version: 1,
         elf: program.elf_hash(),
@@ -84,11 +89,13 @@ fn header_of(program: &Program<'_>) -> Header {
 fn rule(program: &Program<'_>, file: &[u8]) -> u8 {
     match check_front(program, file) {
         Ok(_) => 0,
-        Err(Refusal {
-            shard: 0,
-            row: 0,
-            rule,
-        }) => rule,
+        Err(
+            Refusal {
+                shard: 0,
+                row: 0,
+                rule,
+            },
+        ) => rule,
         Err(_) => 255,
     }
 }
@@ -99,7 +106,7 @@ fn a_good_header(rt: HostRuntime) -> Result<(), Fail> {
     let header = header_of(&program);
     let file = write_header(&header);
     assert_eq!(rt; check_front(&program, &file), Ok(header));
-    assert_eq!(rt; rule(&program, &file[..172]), 1);
+    assert_eq!(rt; rule(&program, file.get(..172).ok_or("short")?), 1);
     assert_eq!(rt; rule(&program, &[]), 1);
     let other = Program::open(&ELF, &[0])?;
     assert_eq!(rt; rule(&other, &file), 4);
@@ -133,28 +140,24 @@ fn changed_headers(rt: HostRuntime) -> Result<(), Fail> {
 #[test]
 fn the_first_broken_check(rt: HostRuntime) -> Result<(), Fail> {
     let program = Program::open(&ELF, &[])?;
-    let good = header_of(&program);
-    let swapped = Header {
-        elf: good.input,
-        input: good.elf,
-        size: 0,
-        ..good
-    };
+    let mut swapped = header_of(&program);
+    let hash = swapped.elf;
+    swapped.elf = program.input_hash();
+    swapped.input = hash;
+    swapped.size = 0;
     assert_eq!(rt; rule(&program, &write_header(&swapped)), 3);
-    let no_steps = Header {
-        steps: 0,
-        shards: 0,
-        ..good
-    };
+    let mut no_steps = header_of(&program);
+    no_steps.steps = 0;
+    no_steps.shards = 0;
     assert_eq!(rt; rule(&program, &write_header(&no_steps)), 6);
-    let with_code = Header {
-        end: End { kind: 1, code: 42 },
-        ..good
-    };
+    let mut with_code = header_of(&program);
+    with_code.end = End { kind: 1, code: 42 };
     assert_eq!(rt; rule(&program, &write_header(&with_code)), 7);
-    let second = Header { version: 2, ..good };
+    let mut second = header_of(&program);
+    second.version = 2;
     assert_eq!(rt; rule(&program, &write_header(&second)), 0);
-    let with_output = Header { length: 1, ..good };
+    let mut with_output = header_of(&program);
+    with_output.length = 1;
     assert_eq!(rt; rule(&program, &write_header(&with_output)), 1);
     Ok(())
 }
