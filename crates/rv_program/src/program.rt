@@ -1,17 +1,22 @@
 //! A program and its input.
 
-ghost use Rattle.std.specs.Prelude.{◌≡◌, ◌≤◌, IfErr, IfOk, None, Some, length};
+ghost use Rattle.std.specs.Prelude.{◌≡◌, ◌≤◌, ℕ, IfErr, IfOk, None, Some, length};
 ghost use Rattle.std.specs.Int.{IsInRange};
 ghost use Rattle.sha2.specs.Sha512.{sha512};
 ghost use Rattle.rv_spec.specs.Words.{AreBytes};
 ghost use Rattle.rv_spec.specs.Elf.{first_fault, image};
+ghost use Rattle.rv_spec.specs.Cells.{initial_value};
 ghost use Rattle.rv_rules.specs.Agreement.{IsProgram};
 ghost use Rattle.rv_elf.specs.Faults.{number_of};
 
+use rv_base::cells::{REGISTER_CELLS, STACK_TOP};
 use rv_base::limits::{ELF_LIMIT, INPUT_LIMIT};
 use rv_elf::{ElfFault, Image};
 use sha2::{Digest, Sha512};
 use std::marker::Model;
+
+/// The number of the register x2.
+const STACK_POINTER: u32 = 2;
 
 /// A program in an ELF file without a fault, and its input. Contracts see the bytes of both files. Their SHA-512 (FIPS 180-4) is taken once, when they are opened.
 #[derive(Drop)]
@@ -71,6 +76,19 @@ impl<'a> Program<'a> {
         ensures program { IsProgram result }
     {
         self.image.copy().with_version(version)
+    }
+
+    /// What a cell holds before the first step, in either version: a word of memory what the ELF file loads there, x2 the top of the stack, and each other register and the reservation 0. A number that is no cell's has 0.
+    pub fn initial_value(&self, cell: u32) -> u32
+        ensures { (version : ℕ) → result ≡ initial_value (image version self.now.elf) cell }
+    {
+        if cell < REGISTER_CELLS {
+            self.image.word(cell)
+        } else if cell == REGISTER_CELLS + STACK_POINTER {
+            STACK_TOP
+        } else {
+            0
+        }
     }
 
     /// The bytes of the input.
