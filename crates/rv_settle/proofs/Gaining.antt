@@ -6,11 +6,14 @@ use Rattle.std.proofs.lemmas.List.Concat.{flat_map-append}
 use Rattle.rv_base.specs.declared.record.TableEntry.{TableEntry}
 use Rattle.rv_base.specs.declared.record.Tuple.{Tuple}
 use Rattle.rv_spec.specs.Trace.{Row}
-use Rattle.rv_spec.specs.Record.{Shard}
+use Rattle.rv_spec.specs.Record.{Shard, Parts, reads, writes}
 use Rattle.rv_spec.specs.Tuples.{Event, event, events, tuple_read, tuple_written, tuple_last, tuple_first}
 use Rattle.rv_settle.specs.declared.tuples.Tuples.{Tuples}
 use Rattle.rv_settle.specs.Collecting.{Gains, GainsEvents, GainsEntries}
 use Rattle.rv_settle.specs.Spelled.{rows_of_all}
+use Rattle.rv_base.specs.declared.record.Access.{Access}
+use Rattle.rv_spec.specs.Elf.{image}
+use Rattle.rv_spec.specs.Cells.{initial_value}
 use Rattle.rv_settle.proofs.Places.{IsAt}
 
 pub gains_none : (a : Tuples) → Gains a a [] []
@@ -77,4 +80,38 @@ behind_shard a b c step k n ss s at size is more =
     record {
       steps = omega (arith, is.steps, size, ap length rows_are, length-append before s.rows);
       gains = subst (λ es. GainsEvents a c es) both (gains_events a b c (events 0 before) (events step s.rows) is.gains more);
+    }
+
+-- the events of equal steps and accesses
+pub same_events : (a b : Tuples) (k n : ℕ) (xs ys : List Access) → k ≡ n → xs ≡ ys → GainsEvents a b (map (event k) xs) → GainsEvents a b (map (event n) ys)
+same_events a b k n xs ys steps same g = rw (← steps, ← same) g
+
+-- ---- entries of the table
+
+abbrev first_at : TableEntry → ℕ → Tuple
+first_at e v = record { cell = e.cell; value = v; time = 0 }
+
+pub gains_entry : (initial : ℕ → ℕ) (a b : Tuples) (e : TableEntry) (v : ℕ) → v ≡ initial e.cell → Gains a b (tuple_last e ∷ []) (first_at e v ∷ []) → GainsEntries initial a b (e ∷ [])
+gains_entry initial a b e v is g = record { reads = g.reads; writes = g.writes ∙ ap (λ n. a.writes.items ++ first_at e n ∷ []) is }
+
+pub entries_more : (initial : ℕ → ℕ) (a b c : Tuples) (j : ℕ) (es : List TableEntry) (e : TableEntry) → IsAt es j e
+    → GainsEntries initial a b (take j es) → GainsEntries initial b c (e ∷ []) → GainsEntries initial a c (take (j + 1) es)
+entries_more initial a b c j es e at first second = subst (λ fs. GainsEntries initial a c fs) (sym at.front) (gains_entries initial a b c (take j es) (e ∷ []) first second)
+
+-- ---- the whole file
+
+-- What was collected is all that the parts read, and all that they write.
+pub record AreAll (elf : List ℕ) (p : Parts) (t : Tuples) : Type 0 where
+  pub reads_are : t.reads.items ≡ reads p
+  pub writes_are : t.writes.items ≡ writes (image p.header.version elf) p
+
+pub all_collected : (elf : List ℕ) (p : Parts) (a b c : Tuples) → a.reads.items ≡ [] → a.writes.items ≡ []
+    → GainsEvents a b (events 0 (rows_of_all p.shards)) → GainsEntries (initial_value (image p.header.version elf)) b c p.table → AreAll elf p c
+unfolding reads writes
+all_collected elf p a b c no_reads no_writes rows table =
+    let es = events 0 (rows_of_all p.shards) in
+    let initial = initial_value (image p.header.version elf) in
+    record {
+      reads_are = table.reads ∙ ap (λ xs. xs ++ map tuple_last p.table) (rows.reads ∙ ap (λ xs. xs ++ map tuple_read es) no_reads);
+      writes_are = table.writes ∙ ap (λ xs. xs ++ map (tuple_first initial) p.table) (rows.writes ∙ ap (λ xs. xs ++ map tuple_written es) no_writes);
     }

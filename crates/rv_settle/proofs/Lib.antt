@@ -1,3 +1,4 @@
 pub mod Places
 pub mod Gaining
 pub mod Spelling
+pub mod Concluding

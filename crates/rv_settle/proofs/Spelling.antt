@@ -1,5 +1,5 @@
 -- Bytes that begin with parts of a file, part by part.
-use Rattle.std.proofs.Common.{◌≡◌, ℕ, zero, suc, ◌+◌, ◌*◌, ◌<◌, ◌≤◌, List, [], ◌∷◌, ◌++◌, length, map, take, drop, refl, sym, ap, ◌∙◌, append_assoc, arith}
+use Rattle.std.proofs.Common.{◌≡◌, ℕ, zero, suc, ◌+◌, ◌*◌, ◌<◌, ◌≤◌, List, [], ◌∷◌, ◌++◌, length, map, take, drop, refl, sym, ap, subst, ◌∙◌, append_assoc, arith}
 use Rattle.std.specs.Int.{w32, w64, to_le_bytes}
 use Rattle.std.specs.List.{flat_map, AllByRecursion}
 use Rattle.std.proofs.lemmas.List.{length-append, drop_at, drop-drop}
@@ -8,9 +8,13 @@ use Rattle.rv_base.specs.declared.record.ShardHead.{ShardHead}
 use Rattle.rv_spec.specs.Digest.{set_digest_bytes}
 use Rattle.rv_spec.specs.Trace.{Row}
 use Rattle.rv_spec.specs.Record.{Shard, Parts, header_bytes, head_bytes, row_bytes, shard_bytes, table_bytes, file_bytes, row_length}
-use Rattle.rv_spec.specs.Grammar.{AreNumbers, RowFits, HeaderFits, ShardFits, Spells}
+use Rattle.rv_spec.specs.Grammar.{AreNumbers, RowFits, HeaderFits, ShardFits, ShardsFit, Spells}
 use Rattle.rv_row.proofs.Lemmas.{length-row_bytes}
 use Rattle.rv_settle.specs.Spelled.{SpellRows, SpellShard, SpellShards}
+use Rattle.rv_row.specs.RowReading.{IsRow}
+use Rattle.rv_row.specs.declared.rows.Row.{Row as RowData}
+use Rattle.rv_row.specs.declared.rows.RowRead.{RowRead}
+use Rattle.rv_row.specs.declared.rows.RowRead.TheVariants as read
 use Rattle.rv_settle.proofs.Places.{IsAt, place_of, shard_at}
 
 -- ---- rows
@@ -34,6 +38,12 @@ next_row rs k bytes tail lt fit is =
 pub behind_row : (rs : List Row) (k n : ℕ) (bytes tail : List ℕ) (r : Row) → BeginsWithRow rs k bytes tail r → n ≡ row_length r → drop n bytes ≡ flat_map row_bytes (drop (k + 1) rs) ++ tail
 behind_row rs k n bytes tail r b size =
     ap (drop n) b.is ∙ drop_at (row_bytes r) (flat_map row_bytes (drop (k + 1) rs) ++ tail) n (length-row_bytes r ∙ sym size)
+
+-- what is no row is not this row
+pub no_row : (answer : RowRead) (r : Row) (n : ℕ) → IsRow answer r n → ((x : RowData) (k : ℕ) → answer ≡ read.Row x k → ⊥) → ⊥
+no_row (read.Row x k) r n is other = other x k refl
+no_row read.Short r n is other = is
+no_row read.Shape r n is other = is
 
 -- ---- a shard
 
@@ -86,7 +96,7 @@ next_shard h ss k file bytes tail sp lt is =
     (s, record {
       at = p.1;
       spelled = record {
-        fits = rw (← e) p.2;
+        fits = subst (λ n. ShardFits h n s) e p.2;
         are = is ∙ ap (λ (qs : List Shard). flat_map shard_bytes qs ++ tail) p.1.behind ∙ append_assoc (shard_bytes s) (flat_map shard_bytes (drop (k + 1) ss)) tail;
       };
     })
@@ -110,4 +120,14 @@ behind_output p file spells =
       count = spells.fit.count;
       fit = spells.fit.shards;
       are = ap (drop (173 + p.header.length)) (spells.is ∙ four (header_bytes p.header) p.output (flat_map shard_bytes p.shards) (table_bytes p.table)) ∙ drop_at front rest (173 + p.header.length) long;
+    }
+
+-- the same, of a header and bytes that are these
+pub from_here : (p : Parts) (h : Header) (file bytes : List ℕ) → Spells p file → h ≡ p.header → bytes ≡ drop (173 + h.length) file → SpellShards h p.shards bytes (table_bytes p.table)
+from_here p h file bytes spells is from =
+    let at = behind_output p file spells in
+    record {
+      count = at.count ∙ ap (λ (k : Header). k.shards) (sym is);
+      fit = subst (λ (k : Header). ShardsFit k 0 p.shards) (sym is) at.fit;
+      are = from ∙ ap (λ (k : Header). drop (173 + k.length) file) is ∙ at.are;
     }

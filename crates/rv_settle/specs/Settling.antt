@@ -1,5 +1,6 @@
 -- What settling answers.
 use Rattle.std.specs.Prelude.{◌≡◌, ℕ, List, Ok, Err}
+use Rattle.rv_base.specs.declared.record.Tuple.{Tuple}
 use Rattle.rv_spec.specs.Elf.{image}
 use Rattle.rv_spec.specs.Digest.{Lanes}
 use Rattle.rv_spec.specs.Multiset.{Same, count}
@@ -31,3 +32,9 @@ abbrev pub IsSettled : Lanes → List ℕ → List ℕ → List ℕ → Settled 
 IsSettled lanes elf input file (Run steps) = (p : Parts) × IsRun lanes elf input file steps p
 IsSettled lanes elf input file (Collision d) = (p : Parts) × Differs lanes elf input file d p
 IsSettled lanes elf input file (Refused r) = judge lanes elf input file ≡ Err r
+
+-- What is answered on an accepted file of so many steps, by its two lists.
+abbrev pub IsDecided : List Tuple → List Tuple → ℕ → Settled → Type 0
+IsDecided rs ws steps (Run n) = Same rs ws × (n ≡ steps)
+IsDecided rs ws steps (Collision d) = IsLeastDiffering rs ws d.tuple × (d.reads ≡ count d.tuple rs) × (d.writes ≡ count d.tuple ws)
+IsDecided rs ws steps (Refused r) = ⊥

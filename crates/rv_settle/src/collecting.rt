@@ -43,7 +43,7 @@ fn collect_rows<'a>(
             return Ok(rest);
         };
         tuples.add_row(step + u64::from(row), read.accesses.as_slice())?;
-        rest = &rest[length..];
+        rest = behind(rest, length);
     }
     Ok(rest)
 }
