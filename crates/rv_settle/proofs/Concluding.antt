@@ -73,3 +73,11 @@ concluded lanes elf input file steps p (Collision d) k c =
       collision = record { parts = p; spells = a.0; one_digest = a.1.balance; differ = λ same. c.0.differs (same.counts d.tuple) };
     })
 concluded lanes elf input file steps p (Refused r) k d = absurd d
+
+-- what is decided of the lists that were collected is decided of those of the parts
+pub decided_of : (elf : List ℕ) (q p : Parts) (rs ws : List Tuple) (steps : ℕ) (s : Settled) → q ≡ p → rs ≡ reads q → ws ≡ writes (image q.header.version elf) q → IsDecided rs ws steps s
+    → IsDecided (reads p) (writes (image p.header.version elf) p) steps s
+decided_of elf q p rs ws steps s one read written d =
+    let reads_are : rs ≡ reads p = read ∙ ap (λ (x : Parts). reads x) one in
+    let writes_are : ws ≡ writes (image p.header.version elf) p = written ∙ ap (λ (x : Parts). writes (image x.header.version elf) x) one in
+    subst (λ xs. IsDecided (reads p) xs steps s) writes_are (subst (λ xs. IsDecided xs ws steps s) reads_are d)

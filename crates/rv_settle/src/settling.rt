@@ -39,7 +39,7 @@ fn opened(program: &Program<'_>)
 
 /// Whether all that an accepted file of so many steps reads is all that it writes.
 fn decide(mut tuples: Tuples, steps: u64) -> Settled
-    ensures { IsDecided tuples.entry.reads.items tuples.entry.writes.items steps result }
+    ensures { IsDecided tuples.reads.items tuples.writes.items steps result }
 {
     match compare(tuples.reads.as_mut_slice(), tuples.writes.as_mut_slice()) {
         Some(differ) => Settled::Collision(differ),
