@@ -41,7 +41,15 @@ fn opens_a_program(rt: HostRuntime) -> Result<(), Fail> {
     assert_eq!(rt; program.image().entry(), 0x10000);
     assert_eq!(rt; program.image().version(), 1);
     assert_eq!(rt; program.image_of(2).version(), 2);
-    assert_eq!(rt; program.image_of(2).word(0x4000), 0x02A0_0513);
+    for (cell, value) in [
+        (0x4000, 0x02A0_0513),
+        (0x4003, 0),
+        (0x4000_0001, 0),
+        (0x4000_0002, 0x7FFF_F000),
+        (0x4000_0020, 0),
+    ] {
+        assert_eq!(rt; program.initial_value(cell), value, "cell {cell}");
+    }
     assert!(rt; program.input().is_empty());
     assert_eq!(rt; &program.input_hash()[..8], EMPTY_FRONT.as_slice());
     assert_eq!(rt; &program.input_hash()[56..], EMPTY_BACK.as_slice());
