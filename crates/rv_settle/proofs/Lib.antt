@@ -1,0 +1,4 @@
+pub mod Places
+pub mod Gaining
+pub mod Spelling
+pub mod Concluding
