@@ -13,9 +13,10 @@ use Rattle.rv_rules.specs.Checks.{Check}
 use Rattle.rv_rules.specs.Reading.{above, head_of}
 use Rattle.rv_rowcheck.specs.RowChecking.{IsPlace}
 use Rattle.rv_spec.specs.Digest.{Lanes}
+use Rattle.rv_reading.specs.Stream.{Found}
 use Rattle.rv_reading.specs.Machine as machine
-use Rattle.rv_reading.specs.Machine.Phase as at
-use Rattle.rv_reading.specs.Machine.Extent as to
+use Rattle.rv_reading.specs.Machine.Phase.{Shards as ShardsOf, Rows as RowsOf, Entries as EntriesOf}
+use Rattle.rv_reading.specs.Machine.Extent.{WholeFile, ShardsAlone, TableAlone}
 use Rattle.rv_judge.specs.declared.phases.Extent.{Extent}
 use Rattle.rv_judge.specs.declared.phases.Extent.TheVariants.{File, Shard, Table}
 use Rattle.rv_judge.specs.declared.phases.Phase.{Phase}
@@ -26,9 +27,9 @@ use Rattle.rv_judge.specs.declared.phases.Machine.{Machine}
 use Rattle.rv_judge.specs.Subject.{Subject, step}
 
 abbrev pub extent_of : Extent → machine.Extent
-extent_of File = to.WholeFile
-extent_of Shard = to.ShardsAlone
-extent_of Table = to.TableAlone
+extent_of File = WholeFile
+extent_of Shard = ShardsAlone
+extent_of Table = TableAlone
 
 abbrev pub sums_of : Sums → machine.Sums
 sums_of s = record { reads = s.reads.lanes; writes = s.writes.lanes }
@@ -37,12 +38,18 @@ abbrev pub inside_of : RowsLeft → Sums → machine.Inside
 inside_of rows shard = record { head = rows.head; bytes = rows.bytes; sums = sums_of shard }
 
 abbrev pub phase_at : Phase → Place → Sums → Sums → machine.Phase
-phase_at (Shards left next) place shard all = at.Shards left next place (sums_of all)
-phase_at (Rows rows) place shard all = at.Rows rows.left rows.next rows.behind rows.shard (inside_of rows shard) place (sums_of all)
-phase_at (Entries left next before) place shard all = at.Entries left next before place (sums_of all)
+phase_at (Shards left next) place shard all = ShardsOf left next place (sums_of all)
+phase_at (Rows rows) place shard all = RowsOf rows.left rows.next rows.behind rows.shard (inside_of rows shard) place (sums_of all)
+phase_at (Entries left next before) place shard all = EntriesOf left next before place (sums_of all)
 
 abbrev pub phase_of : Machine → machine.Phase
 phase_of m = phase_at m.phase m.place m.shard m.all
+
+-- how many entries of the table were read
+abbrev pub entries_in : Phase → ℕ
+entries_in (Shards left next) = 0
+entries_in (Rows r) = 0
+entries_in (Entries left next before) = next
 
 -- ---- what is counted stays within its type
 
@@ -50,10 +57,10 @@ phase_of m = phase_at m.phase m.place m.shard m.all
 abbrev pub longest_row : ℕ
 longest_row = ROW_BYTES + ACCESS_BYTES * SLOTS
 
-pub record RowsFit (h : Header) (rows : RowsLeft) : Type 0 where
-  pub shards : rows.shard + rows.behind < h.shards
-  pub rows : rows.next + rows.left ≤ h.size
-  pub bytes : rows.bytes ≤ longest_row * rows.next
+pub record RowsFit (h : Header) (r : RowsLeft) : Type 0 where
+  pub shards : r.shard + r.behind < h.shards
+  pub rows : r.next + r.left ≤ h.size
+  pub bytes : r.bytes ≤ longest_row * r.next
 
 abbrev pub PhaseFits : Header → Phase → Type 0
 PhaseFits h (Shards left next) = next + left ≤ h.shards
@@ -87,6 +94,11 @@ Steps lanes s old new bytes (Err r) = (step lanes s (phase_of old) bytes ≡ Err
 abbrev pub Ends : Lanes → Subject → machine.Phase → List ℕ → Result (Unit {0}) Refusal → Type 0
 Ends lanes s before bytes (Ok u) = step lanes s before bytes ≡ Ok None
 Ends lanes s before bytes (Err r) = step lanes s before bytes ≡ Err r
+
+-- what is found where the reading stops
+abbrev pub stopped : Option Refusal → Found machine.Phase
+stopped None = Ok None
+stopped (Some r) = Err r
 
 -- ---- parts
 

@@ -2,9 +2,19 @@
 //! breaks. It holds a fixed state and no memory of the running program.
 #![tactic(auto)]
 
+mod alone;
+mod held;
 mod phases;
+mod pieces;
+mod reading;
 mod rows;
 mod shards;
 mod subject;
 mod sums;
 mod table;
+mod whole;
+
+pub use alone::{ShardSeen, TableSeen, check_end, check_shard, check_table};
+pub use pieces::Judge;
+pub use rv_base::{Place, Refusal, ShardHead, Verdict};
+pub use whole::judge;

@@ -4,7 +4,7 @@ ghost use Rattle.std.specs.Prelude.{◌≡◌, ◌==◌};
 ghost use Rattle.rv_reading.specs.Machine.{is_behind as is_behind_of, no_sums};
 ghost use Rattle.rv_reading.specs.Machine.Phase.{Shards as ShardsOf};
 ghost use Rattle.rv_judge.specs.declared.phases.Phase.TheVariants.{Shards as ShardsPhase};
-ghost use Rattle.rv_judge.specs.Phases.{Fits, Steps, extent_of, phase_of};
+ghost use Rattle.rv_judge.specs.Phases.{Fits, Steps, entries_in, extent_of, phase_of};
 
 use crate::subject::Subject;
 use crate::sums::Sums;
@@ -35,7 +35,10 @@ pub(crate) struct RowsLeft {
 #[derive(Clone, Copy)]
 pub(crate) enum Phase {
     /// So many shards from one on, and then the number of the table's entries.
-    Shards { left: u32, next: u32 },
+    Shards {
+        left: u32,
+        next: u32,
+    },
     /// The rows of a shard, and then its digests.
     Rows(RowsLeft),
     /// So many entries of the table from one on, with cells above one, and then the end.
@@ -107,13 +110,23 @@ impl Machine {
     }
 
     /// Whether the phase is behind what is to be read.
-    fn is_behind(&self, extent: Extent) -> bool
+    pub fn is_behind(&self, extent: Extent) -> bool
         ensures { result ≡ is_behind_of (extent_of extent) (phase_of self.now) }
     {
         match (extent, self.phase) {
             (Extent::Shard, Phase::Shards { left, .. }) => left == 0,
             (Extent::Table, Phase::Entries { left, .. }) => left == 0,
             _ => false,
+        }
+    }
+
+    /// How many entries of the table were read.
+    pub fn entries(&self) -> u32
+        ensures { result ≡ entries_in self.now.phase }
+    {
+        match self.phase {
+            Phase::Entries { next, .. } => next,
+            _ => 0,
         }
     }
 }

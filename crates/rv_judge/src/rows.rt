@@ -17,12 +17,7 @@ use rv_row::{Row, RowRead, read_row};
 use rv_rowcheck::check_row;
 
 /// The place after a row, or the least rule that it breaks at a place.
-fn judge_row(
-    subject: &Subject<'_, '_>,
-    row: &Row,
-    step: u64,
-    place: Place,
-) -> Result<Place, u8>
+fn judge_row(subject: &Subject<'_, '_>, row: &Row, step: u64, place: Place) -> Result<Place, u8>
     requires step { step < 2 ^ 32 }
     requires place { IsPlace place subject.now.input subject.now.output }
     ensures answer { AnswersRow subject.now.header.version (row_view row.now) step place (last_of subject.now.header step) subject.now.input subject.now.output result }
@@ -78,7 +73,8 @@ impl Machine {
                     Ok(after) => {
                         self.phase = Phase::Rows(rows.behind_row(length));
                         self.place = after;
-                        self.shard.add_accesses(lanes, step, row.accesses.as_slice());
+                        self.shard
+                            .add_accesses(lanes, step, row.accesses.as_slice());
                         Ok(length)
                     }
                     Err(rule) => Err(Refusal::at(rows.shard, rows.next, rule)),

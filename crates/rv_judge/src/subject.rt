@@ -16,6 +16,7 @@ use rv_program::Program;
 use std::marker::Model;
 
 /// The program and its input, and a record file's header and output.
+#[derive(Drop)]
 pub(crate) struct Subject<'c, 'p> {
     program: &'c Program<'p>,
     header: Header,

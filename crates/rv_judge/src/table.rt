@@ -13,9 +13,7 @@ use crate::phases::{Machine, Phase};
 use crate::subject::Subject;
 use crate::sums::Sums;
 use rv_base::cells::{REGISTER_CELLS, RESERVATION_CELL};
-use rv_base::layout::{
-    COUNT_BYTES, ENTRY_BYTES, ENTRY_CELL_AT, ENTRY_TIME_AT, ENTRY_VALUE_AT,
-};
+use rv_base::layout::{COUNT_BYTES, ENTRY_BYTES, ENTRY_CELL_AT, ENTRY_TIME_AT, ENTRY_VALUE_AT};
 use rv_base::rules::{BALANCE, LEFT, SHORT, TABLE_CELL, TABLE_ORDER, TABLE_TIME, TRAILING};
 use rv_base::{Header, Place, Refusal, TableEntry, Tuple, get32, get64};
 use rv_digest::Lanes;
@@ -68,12 +66,7 @@ fn broken_entry(version: u8, before: Option<u32>, entry: &TableEntry) -> Option<
 }
 
 /// The first rule that is broken at a file's end: at this place, with these digests, and with bytes behind it or none.
-pub(crate) fn broken_end(
-    header: &Header,
-    place: Place,
-    all: &Sums,
-    is_trailed: bool,
-) -> Option<u8>
+pub(crate) fn broken_end(header: &Header, place: Place, all: &Sums, is_trailed: bool) -> Option<u8>
     ensures { result ≡ first_broken (end_checks header.now place (sums_of all.now) (not is_trailed)) }
 {
     if place.input != header.consumed || place.output != header.length {
