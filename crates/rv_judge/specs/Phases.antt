@@ -24,7 +24,7 @@ use Rattle.rv_judge.specs.declared.phases.Phase.TheVariants.{Shards, Rows, Entri
 use Rattle.rv_judge.specs.declared.phases.RowsLeft.{RowsLeft}
 use Rattle.rv_judge.specs.declared.sums.Sums.{Sums}
 use Rattle.rv_judge.specs.declared.phases.Machine.{Machine}
-use Rattle.rv_judge.specs.Subject.{Subject, step}
+use Rattle.rv_judge.specs.Subject.{Subject, IsWithin, step}
 
 abbrev pub extent_of : Extent → machine.Extent
 extent_of File = WholeFile
@@ -67,9 +67,13 @@ PhaseFits h (Shards left next) = next + left ≤ h.shards
 PhaseFits h (Rows rows) = RowsFit h rows
 PhaseFits h (Entries left next before) = next + left < 2 ^ 32
 
-pub record Fits (s : Subject) (m : Machine) : Type 0 where
-  pub place : IsPlace m.place s.input s.output
-  pub phase : PhaseFits s.header m.phase
+pub record FitsAt (s : Subject) (p : Place) (q : Phase) : Type 0 where
+  pub within : IsWithin s.header
+  pub place : IsPlace p s.input s.output
+  pub phase : PhaseFits s.header q
+
+abbrev pub Fits : Subject → Machine → Type 0
+Fits s m = FitsAt s m.place m.phase
 
 -- ---- steps
 

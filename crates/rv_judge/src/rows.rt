@@ -6,7 +6,7 @@ ghost use Rattle.rv_rules.specs.Reading.{last_of};
 ghost use Rattle.rv_row.specs.RowReading.{row_view};
 ghost use Rattle.rv_rowcheck.specs.RowChecking.{AnswersRow, IsPlace};
 ghost use Rattle.rv_judge.specs.declared.phases.Phase.TheVariants.{Rows as RowsPhase};
-ghost use Rattle.rv_judge.specs.Phases.{Goes, PhaseFits, longest_row, phase_at};
+ghost use Rattle.rv_judge.specs.Phases.{Goes, FitsAt, longest_row, phase_at};
 
 use crate::phases::{Machine, Phase, RowsLeft};
 use crate::subject::Subject;
@@ -62,8 +62,7 @@ impl Machine {
         bytes: &[u8],
     ) -> Result<usize, Refusal>
         requires some { 0 < rows.left }
-        requires phase { PhaseFits subject.now.header (RowsPhase rows) }
-        requires place { IsPlace self.old.place subject.now.input subject.now.output }
+        requires fits { FitsAt subject.now self.old.place (RowsPhase rows) }
         ensures { Goes L.lanes subject.now (phase_at (RowsPhase rows) self.old.place self.old.shard self.old.all) self.old self.new bytes.now result }
     {
         match read_row(bytes) {

@@ -1,11 +1,11 @@
 //! Heads and digests of shards.
 
-ghost use Rattle.std.specs.Prelude.{◌≡◌, ◌<◌};
+ghost use Rattle.std.specs.Prelude.{◌≡◌, ◌<◌, ◌==◌, ◌&&◌};
 ghost use Rattle.rv_spec.specs.Digest.{Lanes as LanesOf};
 ghost use Rattle.rv_rules.specs.Reading.{same_place};
 ghost use Rattle.rv_rowcheck.specs.RowChecking.{IsPlace};
 ghost use Rattle.rv_judge.specs.declared.phases.Phase.TheVariants.{Shards as ShardsPhase, Rows as RowsPhase};
-ghost use Rattle.rv_judge.specs.Phases.{Goes, HeadAt, PhaseFits, phase_at};
+ghost use Rattle.rv_judge.specs.Phases.{Goes, HeadAt, FitsAt, phase_at};
 
 use crate::phases::{Machine, Phase, RowsLeft};
 use crate::subject::Subject;
@@ -25,11 +25,15 @@ pub(crate) fn head_at(bytes: &[u8]) -> Option<ShardHead>
     }
 }
 
-/// Whether a head states this place.
-fn states(head: &ShardHead, place: Place) -> bool
-    ensures { result ≡ same_place head.now place }
+/// Whether a head is that of this shard, of so many rows, at a place.
+fn is_head(head: &ShardHead, shard: u32, rows: u32, place: Place) -> bool
+    ensures { result ≡ (head.now.index == shard && head.now.rows == rows && same_place head.now place) }
 {
-    head.pc == place.pc && head.input == place.input && head.output == place.output
+    head.index == shard
+        && head.rows == rows
+        && head.pc == place.pc
+        && head.input == place.input
+        && head.output == place.output
 }
 
 impl Machine {
@@ -42,15 +46,14 @@ impl Machine {
         bytes: &[u8],
     ) -> Result<usize, Refusal>
         requires some { 0 < left }
-        requires phase { PhaseFits subject.now.header (ShardsPhase left shard) }
-        requires place { IsPlace self.old.place subject.now.input subject.now.output }
+        requires fits { FitsAt subject.now self.old.place (ShardsPhase left shard) }
         ensures { (lanes : LanesOf) → Goes lanes subject.now (phase_at (ShardsPhase left shard) self.old.place self.old.shard self.old.all) self.old self.new bytes.now result }
     {
         let Some(head) = head_at(bytes) else {
             return Err(Refusal::at(shard, 0, SHORT));
         };
         let rows = subject.rows_of(shard);
-        if head.index != shard || head.rows != rows || !states(&head, self.place) {
+        if !is_head(&head, shard, rows, self.place) {
             return Err(Refusal::at(shard, 0, SHARD_HEAD));
         }
         self.phase = Phase::Rows(RowsLeft {
@@ -73,8 +76,7 @@ impl Machine {
         bytes: &[u8],
     ) -> Result<usize, Refusal>
         requires none { rows.left ≡ 0 }
-        requires phase { PhaseFits subject.now.header (RowsPhase rows) }
-        requires place { IsPlace self.old.place subject.now.input subject.now.output }
+        requires fits { FitsAt subject.now self.old.place (RowsPhase rows) }
         ensures { (lanes : LanesOf) → Goes lanes subject.now (phase_at (RowsPhase rows) self.old.place self.old.shard self.old.all) self.old self.new bytes.now result }
     {
         if rows.bytes != rows.head.bytes {

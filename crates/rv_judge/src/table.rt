@@ -7,7 +7,7 @@ ghost use Rattle.rv_rules.specs.Checks.{first_broken};
 ghost use Rattle.rv_rules.specs.Reading.{above, entry_of};
 ghost use Rattle.rv_rowcheck.specs.RowChecking.{IsPlace};
 ghost use Rattle.rv_judge.specs.declared.phases.Phase.TheVariants.{Shards as ShardsPhase, Entries as EntriesPhase};
-ghost use Rattle.rv_judge.specs.Phases.{Ends, Goes, PhaseFits, end_checks, entry_checks, phase_at, sums_of};
+ghost use Rattle.rv_judge.specs.Phases.{Ends, Goes, FitsAt, end_checks, entry_checks, phase_at, sums_of};
 
 use crate::phases::{Machine, Phase};
 use crate::subject::Subject;
@@ -89,7 +89,7 @@ impl Machine {
         next: u32,
         bytes: &[u8],
     ) -> Result<usize, Refusal>
-        requires place { IsPlace self.old.place subject.now.input subject.now.output }
+        requires { FitsAt subject.now self.old.place (ShardsPhase 0 next) }
         ensures { (lanes : LanesOf) → Goes lanes subject.now (phase_at (ShardsPhase 0 next) self.old.place self.old.shard self.old.all) self.old self.new bytes.now result }
     {
         if bytes.len() < COUNT_BYTES {
@@ -114,8 +114,7 @@ impl Machine {
         bytes: &[u8],
     ) -> Result<usize, Refusal>
         requires some { 0 < left }
-        requires phase { PhaseFits subject.now.header (EntriesPhase left next before) }
-        requires place { IsPlace self.old.place subject.now.input subject.now.output }
+        requires fits { FitsAt subject.now self.old.place (EntriesPhase left next before) }
         ensures { Goes L.lanes subject.now (phase_at (EntriesPhase left next before) self.old.place self.old.shard self.old.all) self.old self.new bytes.now result }
     {
         let header = subject.header();
