@@ -1,0 +1,4 @@
+pub mod Fronts
+pub mod InitialValues
+pub mod StepFound
+pub mod TuplesTaken
