@@ -13,7 +13,7 @@ use Rattle.rv_host.specs.Files.{Files, file}
 use Rattle.rv_host.specs.Views.{ShelfView}
 use Rattle.rv_plan.specs.Plan.{Due, Outcome, Plan, read, answer, read_within, read_program, refuses, unless_faulty, with_due}
 use Rattle.rv_plan.specs.Endings.{IsContents, Leaves, ReadFails, Reaches, TakesMemory, WriteFails}
-use Rattle.rv_plan.specs.FileCalls.{IsUnchanged, Loads, Performs, ReadsWithin, Stops}
+use Rattle.rv_plan.specs.FileCalls.{IsUnchanged, Loads, Performs, PerformsBehind, ReadsWithin, Stops, StopsBehind}
 use Rattle.rv_plan.specs.declared.faults.Fault.{Fault}
 use Rattle.rv_plan.specs.declared.faults.Limited.{Limited}
 use Rattle.rv_plan.specs.declared.faults.Limited.TheVariants as limited
@@ -158,17 +158,17 @@ fails_before s s' s'' (read name next) same (inr h) = inr (h.0, subst (λ files.
 fails_before s s' s'' (answer o) same h = h
 
 -- what a plan stops for behind files that were read, the plan that reads them stops for
-lift_stops : (s s' s'' : ShelfView) (p q : Plan) (f : Fault) → IsUnchanged s s' → TakesMemory q → ((o : Outcome) → Reaches s.files p o → Reaches s.files q o) → (ReadFails s s'' p → ReadFails s s'' q) → Stops p s' s'' f → Stops q s s'' f
+lift_stops : (s s' s'' : ShelfView) (p q : Plan) (f : Fault) → IsUnchanged s s' → TakesMemory q → ((o : Outcome) → Reaches s.files p o → Reaches s.files q o) → (ReadFails s s'' p → ReadFails s s'' q) → StopsBehind p s' s'' f → Stops q s s'' f
 lift_stops s s' s'' p q Words same takes on fails h = (leaves_behind same h.0, on (refuses Words) (reaches_before p (refuses Words) same h.1))
 lift_stops s s' s'' p q (Elf e) same takes on fails h = (leaves_behind same h.0, on (refuses (Elf e)) (reaches_before p (refuses (Elf e)) same h.1))
 lift_stops s s' s'' p q (Budget n) same takes on fails h = (leaves_behind same h.0, on (refuses (Budget n)) (reaches_before p (refuses (Budget n)) same h.1))
 lift_stops s s' s'' p q Read same takes on fails h = (leaves_behind same h.0, fails (fails_before s s' s'' p same h.1))
 lift_stops s s' s'' p q Write same takes on fails h = (h.0, on h.0 (reaches_before p h.0 same h.1), writes_fail h.0.writes s s' s'' same h.2)
-lift_stops s s' s'' p q Memory same takes on fails h = (leaves_behind same h.0, takes)
+lift_stops s s' s'' p q Memory same takes on fails h = (leaves_behind same h, takes)
 lift_stops s s' s'' p q (Limit what) same takes on fails h = (leaves_behind same h.0, on (refuses (Limit what)) (reaches_before p (refuses (Limit what)) same h.1))
 lift_stops s s' s'' p q NotBuilt same takes on fails h = (leaves_behind same h.0, on (refuses NotBuilt) (reaches_before p (refuses NotBuilt) same h.1))
 
-lift_performs : (s s' s'' : ShelfView) (p q : Plan) (r : Result Told Fault) → IsUnchanged s s' → TakesMemory q → ((o : Outcome) → Reaches s.files p o → Reaches s.files q o) → (ReadFails s s'' p → ReadFails s s'' q) → Performs p s' s'' r → Performs q s s'' r
+lift_performs : (s s' s'' : ShelfView) (p q : Plan) (r : Result Told Fault) → IsUnchanged s s' → TakesMemory q → ((o : Outcome) → Reaches s.files p o → Reaches s.files q o) → (ReadFails s s'' p → ReadFails s s'' q) → PerformsBehind p s' s'' r → Performs q s s'' r
 lift_performs s s' s'' p q (Ok told) same takes on fails h = (
   h.0,
   on h.0 (reaches_before p h.0 same h.1),
@@ -185,12 +185,24 @@ fails_judged elf input s s' s'' l next h faultless fails =
 
 -- A command that has loaded its program and input goes on as what its plan goes on with.
 pub performs_loaded : (elf input : List ℕ) (s s' s'' : ShelfView) (l : Loaded) (next : List ℕ → List ℕ → Plan) (r : Result Told Fault) → Loads elf input s s' (Ok l) → first_fault l.elf ≡ None
-    → Performs (next l.elf l.input) s' s'' r → Performs (read_program elf input next) s s'' r
+    → PerformsBehind (next l.elf l.input) s' s'' r → Performs (read_program elf input next) s s'' r
 performs_loaded elf input s s' s'' l next r h faultless performs =
     lift_performs s s' s'' (next l.elf l.input) (read_program elf input next) r h.0 tt (λ o. reaches_program elf input s s' l next o h faultless) (fails_judged elf input s s' s'' l next h faultless) performs
 
 -- A command that has read a file within its limit goes on so too.
 pub performs_read : (name : List ℕ) (limit : ℕ) (what : Limited) (s s' s'' : ShelfView) (bytes : List ℕ) (next : List ℕ → Plan) (r : Result Told Fault) → ReadsWithin name limit what s s' (Ok bytes)
-    → Performs (next bytes) s' s'' r → Performs (read_within name limit what next) s s'' r
+    → PerformsBehind (next bytes) s' s'' r → Performs (read_within name limit what next) s s'' r
 performs_read name limit what s s' s'' bytes next r h performs =
     lift_performs s s' s'' (next bytes) (read_within name limit what next) r h.0 tt (λ o. reaches_within s.files name limit what next o bytes h.1 h.2) (fails_within s s'' name limit what next bytes h.1 h.2) performs
+
+-- a command's contract is one of what it does behind a file
+pub performs_behind : (p : Plan) (s s' : ShelfView) (r : Result Told Fault) → Performs p s s' r → PerformsBehind p s s' r
+performs_behind p s s' (Ok told) h = h
+performs_behind p s s' (Err Words) h = h
+performs_behind p s s' (Err (Elf e)) h = h
+performs_behind p s s' (Err (Budget n)) h = h
+performs_behind p s s' (Err Read) h = h
+performs_behind p s s' (Err Write) h = h
+performs_behind p s s' (Err Memory) h = h.0
+performs_behind p s s' (Err (Limit what)) h = h
+performs_behind p s s' (Err NotBuilt) h = h

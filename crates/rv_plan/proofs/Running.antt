@@ -16,4 +16,3 @@ performs_done plan s s' s'' told o same reached status text wrote =
 pub performs_torn : (plan : Plan) (s s' s'' : ShelfView) (o : Outcome) (f : Fault) → IsUnchanged s s' → Reaches s.files plan o → Writes o.writes s' s'' (Err f) → Stops plan s s'' f
 performs_torn plan s s' s'' o f same reached wrote =
     subst (λ x. Stops plan s s'' x) (sym wrote.0) (o, reached, writes_fail o.writes s s' s'' same wrote.1)
-

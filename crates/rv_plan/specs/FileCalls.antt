@@ -73,3 +73,12 @@ abbrev pub Performs : Plan → ShelfView → ShelfView → Result Told Fault →
 Performs plan before after (Ok told) =
     (o : Outcome) × Reaches before.files plan o × (told.status ≡ o.status) × (told.text ≡ o.text) × IsWritten o.writes before after
 Performs plan before after (Err fault) = Stops plan before after fault
+
+-- The same of what a command does behind a file that it has read, where want of memory may always come.
+abbrev pub StopsBehind : Plan → ShelfView → ShelfView → Fault → Type 0
+StopsBehind plan before after Memory = Leaves before after
+StopsBehind plan before after fault = Stops plan before after fault
+
+abbrev pub PerformsBehind : Plan → ShelfView → ShelfView → Result Told Fault → Type 0
+PerformsBehind plan before after (Ok told) = Performs plan before after (Ok told)
+PerformsBehind plan before after (Err fault) = StopsBehind plan before after fault

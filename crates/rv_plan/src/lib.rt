@@ -6,6 +6,8 @@
 mod faults;
 mod loading;
 mod telling;
+#[cfg(test)]
+mod tests;
 mod told;
 mod writing;
 

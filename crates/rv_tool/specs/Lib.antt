@@ -4,3 +4,4 @@ pub mod Lines
 pub mod Differing
 pub mod Outcome
 pub mod Headline
+pub mod Judging

@@ -3,6 +3,7 @@
 
 mod check;
 mod commands;
+mod judging;
 mod lines;
 mod make;
 mod numbers;

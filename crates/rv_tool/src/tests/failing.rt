@@ -6,8 +6,6 @@ ghost use Rattle.rv_tool.specs.CommandLine.{command, is_teamwork};
 use super::programs::{PROGRAM, RECORD, of_code, spelled};
 use super::running::{GREETED, GREETING};
 use super::{MADE, expect, shelf_with, words_of};
-use crate::top::print;
-use crate::writing::{DueFile, write_files};
 use crate::{needs_team, tool_one};
 use rv_host::{CalmShelf, MemShelf, MemSink};
 use std::alloc::Global;
@@ -146,41 +144,5 @@ fn an_absent_file_may_count_as_empty(rt: HostRuntime) -> Result<(), Fail> {
         3
     );
     assert_eq!(rt; sink.bytes(), b"fault elf 1 Short\n".as_slice());
-    Ok(())
-}
-
-#[test]
-fn a_text_of_two_lines_is_torn_at_each_byte(rt: HostRuntime) -> Result<(), Fail> {
-    let text = "one 1\ntwo 2\n";
-    for taken in 0..13 {
-        let mut sink = MemSink::new(rt.alloc());
-        sink.plan(1, taken);
-        assert_eq!(rt; print(&mut sink, 0, text), 6, "{taken}");
-        assert!(rt;
-            Some(sink.bytes()) == text.as_bytes().get(..taken),
-            "{taken}"
-        );
-    }
-    Ok(())
-}
-
-#[test]
-fn the_second_of_two_files_is_torn(rt: HostRuntime) -> Result<(), Fail> {
-    let bytes = vec![in rt.alloc(); b'a'; 2]?;
-    let parts = [bytes.as_slice(), bytes.as_slice()];
-    let first = DueFile {
-        name: "first",
-        parts: &parts,
-    };
-    let second = DueFile {
-        name: "second",
-        parts: &parts,
-    };
-    let mut shelf = MemShelf::new(rt.alloc());
-    shelf.plan_write(4, 1);
-    assert!(rt; write_files(&mut shelf, &[first, second]).is_err());
-    for (name, held) in [("first", b"aaaa".as_slice()), ("second", b"aaa".as_slice())] {
-        assert!(rt; shelf.file(name) == Some(held), "{name}");
-    }
     Ok(())
 }

@@ -54,10 +54,10 @@ loop-bytes-preserved g c =
       more = (
         c.loop-bytes.invariant.more.0 ++ take c.in-Ok-read_at.taken c.read_at.new.into,
         c.in-Ok-extend_from_slice.ensures.items ∙ ap (λ xs. xs ++ take c.in-Ok-read_at.taken c.read_at.new.into) c.loop-bytes.invariant.more.1
-        ∙ append_assoc c.args.bytes.now.items c.loop-bytes.invariant.more.0 (take c.in-Ok-read_at.taken c.read_at.new.into),
+            ∙ append_assoc c.args.bytes.now.items c.loop-bytes.invariant.more.0 (take c.in-Ok-read_at.taken c.read_at.new.into),
       );
       front = λ told is begun. rw c.in-Ok-extend_from_slice.ensures.items
-      (front_more _ _ c.args.name.now c.loop-bytes.bytes.items c.read_at.new.into _ _ c.in-Ok-read_at.taken c.loop-bytes.invariant.files place fits c.in-Ok-read_at.ensures.bytes told is (c.loop-bytes.invariant.front told is begun));
+          (front_more _ _ c.args.name.now c.loop-bytes.bytes.items c.read_at.new.into _ _ c.in-Ok-read_at.taken c.loop-bytes.invariant.files place fits c.in-Ok-read_at.ensures.bytes told is (c.loop-bytes.invariant.front told is begun));
     }
 
 pub returns : goal.returns

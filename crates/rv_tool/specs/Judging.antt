@@ -1,0 +1,37 @@
+-- What judging a record file on a shelf gives, by what it answers.
+use Rattle.std.specs.Prelude.{◌≡◌, ◌<◌, ℕ, List, length, take, Vec, Some, Result, Ok, Err}
+use Rattle.std.specs.declared.alloc.Global.{Global}
+use Rattle.rv_base.specs.declared.layout.TheConstants.{HEADER_BYTES}
+use Rattle.rv_base.specs.declared.record.Verdict.{Verdict}
+use Rattle.rv_spec.specs.Digest.{sha_lanes}
+use Rattle.rv_rules.specs.Verdict.{verdict}
+use Rattle.rv_file.specs.Front.{front_length}
+use Rattle.rv_judge.specs.Conclusions.{IsSound}
+use Rattle.rv_host.specs.Counts.{Rose}
+use Rattle.rv_host.specs.Files.{Files, file}
+use Rattle.rv_host.specs.Views.{ShelfView}
+use Rattle.rv_plan.specs.Endings.{IsContents, Leaves}
+use Rattle.rv_plan.specs.FileCalls.{IsUnchanged}
+use Rattle.rv_plan.specs.declared.faults.Fault.{Fault}
+use Rattle.rv_plan.specs.declared.faults.Fault.TheVariants.{Read, Memory}
+
+-- where the files are told, these are the first bytes of one
+abbrev pub AreFirst : ShelfView → List ℕ → List ℕ → Type 0
+AreFirst before name bytes = (told : Files) → before.files ≡ Some told → bytes ≡ take (length bytes) (file told name)
+
+-- header and output of a file, or all of a file that ends before them
+abbrev pub ReadsFront : List ℕ → ShelfView → ShelfView → Result (Vec ℕ Global) Fault → Type 0
+ReadsFront name before after (Ok front) =
+    IsUnchanged before after × AreFirst before name front.items
+    × ((¬ ((HEADER_BYTES < length front.items + 1) × (length front.items ≡ front_length (take HEADER_BYTES front.items)))) → (told : Files) → before.files ≡ Some told → front.items ≡ file told name)
+ReadsFront name before after (Err Read) = Leaves before after × Rose (before.read_faults name) (after.read_faults name)
+ReadsFront name before after (Err Memory) = Leaves before after
+ReadsFront name before after (Err _) = ⊥
+
+-- The verdict on the contents of a file, which are the told ones where the files are told; and what it concludes.
+abbrev pub Judges : List ℕ → List ℕ → List ℕ → ShelfView → ShelfView → Result Verdict Fault → Type 0
+Judges name elf input before after (Ok answer) =
+    IsUnchanged before after × ((contents : List ℕ) × IsContents before.files name contents × (answer ≡ verdict sha_lanes elf input contents) × IsSound sha_lanes elf input contents answer)
+Judges name elf input before after (Err Read) = Leaves before after × Rose (before.read_faults name) (after.read_faults name)
+Judges name elf input before after (Err Memory) = Leaves before after
+Judges name elf input before after (Err _) = ⊥
