@@ -28,6 +28,7 @@ mod ExpectedShape
 mod TurnRanges
 mod UsesAreCells
 mod RunRanges
+mod Restored
 mod HartLaws
 mod MachineLaws
 pub mod Lemmas

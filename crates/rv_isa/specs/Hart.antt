@@ -14,16 +14,6 @@ use Rattle.rv_mem.specs.Contents.{value_at, time_at, IsTable}
 use Rattle.rv_isa.specs.declared.hart.Stepped.{Stepped}
 use Rattle.rv_isa.specs.HartState.{HartState, StandsFor, IsTimed}
 
--- A cell that a hart may go on from: with time 0 it holds what the program begins with.
-pub record IsKnown (i : Image) (e : TableEntry) : Type 0 where
-  pub cell : IsTrue (is_cell 2 e.cell)
-  pub unused : e.time ≡ 0 → e.value ≡ initial_value i e.cell
-
--- the listed cells hold their values and times, and all others what the program begins with, at time 0
-pub record HoldsListed (h : HartState) (i : Image) (entries : List TableEntry) : Type 0 where
-  pub values : (c : ℕ) → IsTrue (is_cell 2 c) → value_at h.cells c ≡ value_at (record { image = i; touched = entries }) c
-  pub times : (c : ℕ) → IsTrue (is_cell 2 c) → time_at h.cells c ≡ time_at (record { image = i; touched = entries }) c
-
 -- A step from a state that the hart stands for: how it ends the run, if it does, the bytes of input that it takes, and the bytes that it puts, which are the first ones of a word. The hart then stands for the next state; a step that ends the run stays.
 pub record TakesStepFrom (input : List ℕ) (s : State) (m : Stepped) (h : HartState) : Type 0 where
   pub ends : m.end ≡ end_of (step input s)
