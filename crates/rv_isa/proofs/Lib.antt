@@ -31,4 +31,5 @@ mod RunRanges
 mod Restored
 mod HartLaws
 mod MachineLaws
+mod TableOfRun
 pub mod Lemmas

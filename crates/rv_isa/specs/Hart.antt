@@ -3,12 +3,14 @@ use Rattle.std.specs.Prelude.{◌≡◌, ℕ, ◌+◌, ◌≤◌, List, ◌++◌
 use Rattle.std.specs.Int.{w32, to_le_bytes}
 use Rattle.rv_base.specs.declared.record.TableEntry.{TableEntry}
 use Rattle.rv_base.specs.declared.record.Tuple.{Tuple}
+use Rattle.rv_spec.specs.Words.{AreBytes}
 use Rattle.rv_spec.specs.Elf.{Image}
 use Rattle.rv_spec.specs.Step.{State, step}
 use Rattle.rv_spec.specs.Run.{end_of, next_state, run}
 use Rattle.rv_spec.specs.Cells.{is_cell, initial_value}
 use Rattle.rv_spec.specs.Visits.{visits}
 use Rattle.rv_spec.specs.Trace.{Row, access, history, table, tuples_left}
+use Rattle.rv_rules.specs.Agreement.{IsProgram}
 use Rattle.rv_row.specs.RowReading.{row_view}
 use Rattle.rv_mem.specs.Contents.{value_at, time_at, IsTable}
 use Rattle.rv_isa.specs.declared.hart.Stepped.{Stepped}
@@ -38,5 +40,5 @@ pub record TakesTimes (input : List ℕ) (s : State) (before : List Tuple) (k : 
 -- The law of the table: the cells that a hart has used, after n steps of a run, are the table of the run. The step that ends a run counts: it leaves its times, and the state stays.
 abbrev pub TouchedIsTable : Type 0
 TouchedIsTable =
-    (i : Image) (input : List ℕ) (n : ℕ) (h : HartState) (entries : List TableEntry) → StandsFor h (run i input n) → IsTimed h (history i input n) n → IsTable h.cells entries
-    → entries ≡ table i input n
+    (i : Image) (input : List ℕ) (n : ℕ) (h : HartState) (entries : List TableEntry) → IsProgram i → AreBytes input → StandsFor h (run i input n) → IsTimed h (history i input n) n
+    → IsTable h.cells entries → entries ≡ table i input n
