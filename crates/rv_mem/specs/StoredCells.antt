@@ -5,7 +5,7 @@ use Rattle.rv_base.specs.declared.cells.TheConstants.{REGISTER_CELLS, RESERVATIO
 use Rattle.rv_mem.specs.declared.word.Word.{Word}
 use Rattle.rv_mem.specs.declared.words.Words.{Words}
 use Rattle.rv_spec.specs.Cells.{is_cell, initial_value}
-use Rattle.rv_mem.specs.Directory.{page_number}
+use Rattle.rv_mem.specs.Paged.{page_number}
 use Rattle.rv_mem.specs.Left.{value_after, time_after}
 use Rattle.rv_mem.specs.Contents.{Contents}
 use Rattle.rv_mem.specs.Used.{no_word, used}
@@ -13,7 +13,7 @@ use Rattle.rv_mem.specs.Words.{paged_word}
 
 -- word w of memory
 abbrev pub stored_word : Words → ℕ → Word
-stored_word m w = paged_word m.image m.directory.entries.items m.pages.items w
+stored_word m w = paged_word m.image m.directory m.pages.items w
 
 -- a cell, where the registers and the reservation follow the words of memory
 unfoldable pub stored_cell : Words → List Word → ℕ → Word
@@ -21,7 +21,7 @@ stored_cell m registers c = if nat_lt c REGISTER_CELLS then stored_word m c else
 
 -- the page of a cell is there, if the cell is a word of memory
 abbrev pub HasPage : Words → ℕ → Type 0
-HasPage m cell = cell < REGISTER_CELLS → 0 < page_number m.directory.entries.items (cell / 16)
+HasPage m cell = cell < REGISTER_CELLS → 0 < page_number m.directory (cell / 16)
 
 -- the word of a cell after the touches of a step
 abbrev pub word_after : ℕ → List Touch → ℕ → Word → Word
