@@ -24,8 +24,8 @@ const ONE_WORD: [u32; 5] = [
     0xFF5F_F06F,
 ];
 
-/// Stores each word from 0x20000 on.
-const NEW_WORDS: [u32; 4] = [0x0002_02B7, 0x0062_A023, 0x0042_8293, 0xFF9F_F06F];
+/// Stores into each word from 0x20000 on its address, which counts them.
+const NEW_WORDS: [u32; 4] = [0x0002_02B7, 0x0052_A023, 0x0042_8293, 0xFF9F_F06F];
 
 /// The executable of some words at 0x10000.
 fn executable(alloc: Global, words: &[u32]) -> Result<Vec<u8>, NoMemory>

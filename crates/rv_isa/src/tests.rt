@@ -1,3 +1,4 @@
+mod hart;
 mod machine;
 
 use super::*;
@@ -20,6 +21,36 @@ const NOTHING: Seen = Seen {
     s8: 0,
 };
 
+/// `add x2, x2, x2`
+const ADD: Seen = Seen {
+    s1: 0x0021_0133,
+    s2: 0x7FFF_F000,
+    s3: 0x7FFF_F000,
+    ..NOTHING
+};
+
+/// `jalr x1, 2(x0)`
+const JUMP: Seen = Seen {
+    s1: 0x0020_00E7,
+    ..NOTHING
+};
+
+/// `lw x6, 2(x5)`
+const LOAD: Seen = Seen {
+    s1: 0x0022_A303,
+    s2: 0x10000,
+    ..NOTHING
+};
+
+/// `sw x6, 4(x5)`
+const STORE: Seen = Seen {
+    s1: 0x0062_A223,
+    s2: 0x10000,
+    s6: 0x0062_A223,
+    ..NOTHING
+};
+
+/// `sc.w x7, x6, (x5)`
 const CONDITIONAL: Seen = Seen {
     s1: 0x1862_A3AF,
     s2: 0x20000,
@@ -27,82 +58,29 @@ const CONDITIONAL: Seen = Seen {
     ..NOTHING
 };
 
-fn access(slot: u8, cell: u32, new: u32) -> Touch {
+/// A version and old values, with the number of accesses, the slot, the cell and the new value of the last one,
+/// the next instruction, and the kind of the end.
+const STEPS: [(u8, Seen, usize, (u8, u32, u32), u32, Option<u8>); 6] = [
+    (1, ADD, 4, (RD_SLOT, REGISTER_CELLS + 2, 0xFFFF_E000), PC + 4, None),
+    (1, JUMP, 1, (FETCH_SLOT, 0x4000, 0x0020_00E7), PC, Some(MISALIGNED_JUMP)),
+    (1, LOAD, 2, (RS1_SLOT, REGISTER_CELLS + 5, 0x10000), PC, Some(MISALIGNED_LOAD)),
+    (1, STORE, 4, (MEMORY_SLOT, 0x4001, 0), PC + 4, None),
+    (2, CONDITIONAL, 6, (RESERVATION_SLOT, RESERVATION_CELL, 0), PC + 4, None),
+    (1, CONDITIONAL, 1, (FETCH_SLOT, 0x4000, 0x1862_A3AF), PC, Some(ILLEGAL_WORD)),
+];
+
+fn access((slot, cell, new): (u8, u32, u32)) -> Touch {
     Touch { slot, cell, new }
 }
 
 #[test]
 fn instructions(rt: HostRuntime) {
-    let add = Seen {
-        s1: 0x0021_0133,
-        s2: 0x7FFF_F000,
-        s3: 0x7FFF_F000,
-        ..NOTHING
-    };
-    let jump = Seen {
-        s1: 0x0020_00E7,
-        ..NOTHING
-    };
-    let load = Seen {
-        s1: 0x0022_A303,
-        s2: 0x10000,
-        ..NOTHING
-    };
-    let store = Seen {
-        s1: 0x0062_A223,
-        s2: 0x10000,
-        s6: 0x0062_A223,
-        ..NOTHING
-    };
-    let end = |kind| Some(End { kind, code: 0 });
-    for (version, seen, count, last, next, end) in [
-        (
-            1,
-            add,
-            4,
-            access(RD_SLOT, REGISTER_CELLS + 2, 0xFFFF_E000),
-            PC + 4,
-            None,
-        ),
-        (
-            1,
-            jump,
-            1,
-            access(FETCH_SLOT, 0x4000, 0x0020_00E7),
-            PC,
-            end(MISALIGNED_JUMP),
-        ),
-        (
-            1,
-            load,
-            2,
-            access(RS1_SLOT, REGISTER_CELLS + 5, 0x10000),
-            PC,
-            end(MISALIGNED_LOAD),
-        ),
-        (1, store, 4, access(MEMORY_SLOT, 0x4001, 0), PC + 4, None),
-        (
-            2,
-            CONDITIONAL,
-            6,
-            access(RESERVATION_SLOT, RESERVATION_CELL, 0),
-            PC + 4,
-            None,
-        ),
-        (
-            1,
-            CONDITIONAL,
-            1,
-            access(FETCH_SLOT, 0x4000, 0x1862_A3AF),
-            PC,
-            end(ILLEGAL_WORD),
-        ),
-    ] {
+    for (version, seen, count, last, next, kind) in STEPS {
         let step = expect(version, PC, &seen, &[], 0);
         assert_eq!(rt; step.touches.len(), count);
-        assert!(rt; step.touches.last() == Some(&last));
+        assert!(rt; step.touches.last() == Some(&access(last)));
         assert_eq!(rt; step.next, next);
-        assert!(rt; step.end == end);
+        assert!(rt; step.end == kind.map(|kind| End { kind, code: 0 }));
     }
 }
 
@@ -132,7 +110,7 @@ fn calls(rt: HostRuntime) {
     ] {
         let step = expect(1, PC, &seen, &[0x41, 0x42], at);
         assert_eq!(rt; step.touches.len(), count);
-        assert!(rt; step.touches.last() == Some(&access(RD_SLOT, REGISTER_CELLS + 10, answer)));
+        assert!(rt; step.touches.last() == Some(&access((RD_SLOT, REGISTER_CELLS + 10, answer))));
         assert_eq!(rt; (step.took, step.put, step.word), (took, put, word));
     }
 }

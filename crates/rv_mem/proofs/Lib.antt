@@ -1,4 +1,5 @@
 pub mod CellLaws
+pub mod BlocksLaws
 pub mod DirectoryLaws
 pub mod UsedLaws
 pub mod WordsLaws

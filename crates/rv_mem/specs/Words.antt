@@ -4,7 +4,8 @@ use Rattle.rv_mem.specs.declared.page.Page.{Page}
 use Rattle.rv_mem.specs.declared.word.Word.{Word}
 use Rattle.rv_spec.specs.Elf.{Image}
 use Rattle.rv_spec.specs.Cells.{initial_value}
-use Rattle.rv_mem.specs.Directory.{page_number}
+use Rattle.rv_mem.specs.declared.directory.Directory.{Directory}
+use Rattle.rv_mem.specs.Paged.{page_number}
 use Rattle.rv_mem.specs.Used.{no_word}
 
 abbrev pub first_word : Image → ℕ → Word
@@ -18,10 +19,10 @@ no_page = record { words = replicate 16 no_word; full = refl }
 abbrev pub word_in : List Page → ℕ → ℕ → Word
 word_in pages number w = slice_index_or (slice_index_or pages (number - 1) no_page).words (w % 16) no_word
 
-unfoldable pub paged_word : Image → List ℕ → List Page → ℕ → Word
-paged_word i entries pages w = if page_number entries (w / 16) == 0 then first_word i w else word_in pages (page_number entries (w / 16)) w
+unfoldable pub paged_word : Image → Directory → List Page → ℕ → Word
+paged_word i directory pages w = if page_number directory (w / 16) == 0 then first_word i w else word_in pages (page_number directory (w / 16)) w
 
 -- The directory's numbers are those of pages, each of another one.
-pub record ArePages (entries : List ℕ) (pages : List Page) : Type 0 where
-  pub there : (p : ℕ) → p < 2 ^ 26 → page_number entries p ≤ length pages
-  pub apart : (p q : ℕ) → p < 2 ^ 26 → q < 2 ^ 26 → 0 < page_number entries p → page_number entries p ≡ page_number entries q → p ≡ q
+pub record ArePages (directory : Directory) (pages : List Page) : Type 0 where
+  pub there : (p : ℕ) → p < 2 ^ 26 → page_number directory p ≤ length pages
+  pub apart : (p q : ℕ) → p < 2 ^ 26 → q < 2 ^ 26 → 0 < page_number directory p → page_number directory p ≡ page_number directory q → p ≡ q

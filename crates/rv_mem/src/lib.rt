@@ -1,7 +1,9 @@
 //! The cells of a run, each with its value and the time of its last use (Blum et al. 1991).
 #![tactic(auto)]
 
+mod blocks;
 mod directory;
+mod leaving;
 mod memory;
 mod page;
 mod word;

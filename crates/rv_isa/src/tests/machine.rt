@@ -17,10 +17,10 @@ use std::test::Fail;
 const EBREAK: u32 = 0x0010_0073;
 
 /// `addi x10, x0, 42`, and an exit.
-const EXITS: [u32; 3] = [0x02A0_0513, 0x05D0_0893, 0x73];
+pub const EXITS: [u32; 3] = [0x02A0_0513, 0x05D0_0893, 0x73];
 
 /// Stores 0 onto its own word, jumps back to it, and fetches the 0.
-const OVERWRITE: [u32; 3] = [0x0001_02B7, 0x0062_A223, 0xFFDF_F06F];
+pub const OVERWRITE: [u32; 3] = [0x0001_02B7, 0x0062_A223, 0xFFDF_F06F];
 
 /// `lw x6, 2(x5)`, where x5 is a multiple of 4.
 const ODD_LOAD: [u32; 2] = [0x0001_02B7, 0x0022_A303];
@@ -91,7 +91,7 @@ const STORED: [u32; 6] = [
 const REFUSED: [u32; 4] = [0x0002_02B7, 0x1862_A52F, 0x05D0_0893, 0x73];
 
 /// The executable of some words at 0x10000.
-fn file_of(alloc: Global, words: &[u32]) -> Result<Vec<u8>, Fail>
+pub fn file_of(alloc: Global, words: &[u32]) -> Result<Vec<u8>, Fail>
     requires { length words.now ≤ 100 }
     ensures { IfOk result (λ file. length file.items ≤ 1000) }
 {

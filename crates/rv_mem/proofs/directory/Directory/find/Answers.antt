@@ -1,22 +1,14 @@
-use Rattle.std.proofs.Common.{◌<◌, length, arith, ◌∙◌}
-use Rattle.rv_mem.proofs.DirectoryLaws.{number-empty, number-none, number-read, leaf-read}
+use Rattle.std.proofs.Common.{arith, ◌∙◌}
+use Rattle.rv_mem.proofs.DirectoryLaws.{number-none, number-read}
 use Rattle.rv_mem.proofs.directory.Directory.find.Goals as goal
 
-pub returns-then-is_empty : goal.returns-then-is_empty
-returns-then-is_empty c = number-empty _ _ (grind arith)
-
-pub returns-then-leaf-eq0 : goal.returns-then-leaf-eq0
-returns-then-leaf-eq0 c =
-    let some : 0 < length c.args.self.now.entries.items = grind arith in
-    number-none _ _ (leaf-read _ _ _ c.args.self.now.sound c.requires some c.index.ensures ∙ c.if-leaf-eq0.true)
+pub returns-in_default : goal.returns-in_default
+returns-in_default c = number-none _ _ c.args.page c.in_default.ensures
 
 pub returns-then-number-eq0 : goal.returns-then-number-eq0
-returns-then-number-eq0 c =
-    let some : 0 < length c.args.self.now.entries.items = grind arith in
-    number-read _ _ _ _ c.args.self.now.sound c.requires some c.index.ensures c.if-leaf-eq0.false c.index-2.ensures ∙ c.if-number-eq0.true
+returns-then-number-eq0 c = number-read _ _ c.args.page c.in-Some.leaf _ c.args.self.now.sound c.requires c.in-Some.ensures c.index.ensures ∙ c.if-number-eq0.true
 
 pub returns-else-number-eq0 : goal.returns-else-number-eq0
 returns-else-number-eq0 c =
-    let some : 0 < length c.args.self.now.entries.items = grind arith in
-    let found = number-read _ _ _ _ c.args.self.now.sound c.requires some c.index.ensures c.if-leaf-eq0.false c.index-2.ensures in
+    let found = number-read _ _ c.args.page c.in-Some.leaf _ c.args.self.now.sound c.requires c.in-Some.ensures c.index.ensures in
     omega (arith, found)

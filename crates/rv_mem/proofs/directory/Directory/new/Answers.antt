@@ -1,6 +1,6 @@
-use Rattle.std.proofs.Common.{ap, length}
-use Rattle.rv_mem.proofs.DirectoryLaws.{number-empty}
+use Rattle.std.proofs.Common.{◌/◌}
+use Rattle.rv_mem.proofs.DirectoryLaws.{number-none}
 use Rattle.rv_mem.proofs.directory.Directory.new.Goals as goal
 
 pub returns : goal.returns
-returns c = λ page. number-empty _ page (ap length c.new.ensures.items)
+returns c = λ page. number-none _ _ page (c.new.ensures (page / 256))

@@ -1,5 +1,5 @@
-use Rattle.rv_mem.proofs.DirectoryLaws.{number-kept}
-use Rattle.rv_mem.proofs.directory.Directory.make_upper_level.Goals as goal
+use Rattle.rv_mem.proofs.BlocksLaws.{number-kept}
+use Rattle.rv_mem.proofs.blocks.Blocks.make_upper_level.Goals as goal
 
 pub returns-clause-same : goal.returns-clause-same
 returns-clause-same c = λ other. number-kept _ _ c.grow.ensures.empty other
