@@ -1,5 +1,5 @@
 -- The ranges of a run: its version, the bytes that it takes and puts, the values that it holds, and its end.
-use Rattle.std.proofs.Common.{◌≡◌, ℕ, zero, suc, ◌+◌, ◌-◌, ◌*◌, ◌^◌, ◌<◌, ◌≤◌, Bool, true, false, cond, ◌==◌, List, Some, refl, ◌∙◌, subst, arith, nat_lt}
+use Rattle.std.proofs.Common.{◌≡◌, ℕ, zero, suc, ◌+◌, ◌-◌, ◌*◌, ◌^◌, ◌<◌, ◌≤◌, Bool, true, false, cond, ◌==◌, List, length, Some, refl, ◌∙◌, subst, arith, nat_lt}
 use Rattle.rv_base.specs.declared.record.End.{End}
 use Rattle.rv_spec.specs.Words.{word, AreBytes}
 use Rattle.rv_spec.specs.Elf.{Image}
@@ -46,23 +46,23 @@ unfolding run
 run-version i input zero = refl
 run-version i input (suc n) = after-version (run i input n) (step input (run i input n)) (step-version input (run i input n)) ∙ run-version i input n
 
-after-fits : (s : State) (turn : Transition) → TurnFits s turn → ((state_after s turn).position ≤ s.position + 4) × (AreBytes s.output → AreBytes (state_after s turn).output)
+after-fits : (s : State) (turn : Transition) → TurnFits s turn → ((state_after s turn).position ≤ s.position + 4) × (AreBytes s.output → AreBytes (state_after s turn).output) × (length (state_after s turn).output ≤ length s.output + 4)
 after-fits s (Next t) h = h
-after-fits s (Ends e) h = (omega arith, λ k. k)
+after-fits s (Ends e) h = (omega arith, (λ k. k), omega arith)
 
 turn-end : (s : State) (turn : Transition) (e : End) → TurnFits s turn → end_of turn ≡ Some e → EndFits e
 turn-end s (Next t) e h is = absurd cc
 turn-end s (Ends f) e h is = (let same : f ≡ e = cc in subst EndFits same h)
 
 module _ (i : Image) (input : List ℕ) (states : (n : ℕ) → IsState (run i input n)) where
-  -- a run takes four bytes a step at most, and puts bytes
-  run-moves-bytes : (n : ℕ) → ((run i input n).position ≤ 4 * n) × AreBytes (run i input n).output
+  -- a run takes four bytes a step at most, and puts bytes, four a step at most
+  run-moves-bytes : (n : ℕ) → ((run i input n).position ≤ 4 * n) × AreBytes (run i input n).output × (length (run i input n).output ≤ 4 * n)
   unfolding run
-  run-moves-bytes zero = (omega arith, tt)
+  run-moves-bytes zero = (omega arith, tt, omega arith)
   run-moves-bytes (suc n) =
       let before = run-moves-bytes n in
       let next = after-fits (run i input n) (step input (run i input n)) (step-fits input (run i input n) (states n)) in
-      (omega (arith, before.0, next.0), next.1 before.1)
+      (omega (arith, before.0, next.0), next.1 before.1, omega (arith, before.2, next.2))
 
   -- the end of a run has its ranges
   end-fits : (n : ℕ) (e : End) → end_at i input n ≡ Some e → EndFits e
@@ -81,6 +81,7 @@ runs-fit i input program bytes n =
       version = run-version i input n;
       taken = moves.0;
       put = moves.1;
+      put_most = moves.2;
       values = λ c. value-fits (run i input n) c (states n);
       slots = step-slots-rise input (run i input n);
       cells = run-uses-cells i input states n;

@@ -1,5 +1,5 @@
 -- The ranges of what the steps of a run use, take, put and end with.
-use Rattle.std.specs.Prelude.{◌≡◌, ◌⊎◌, ℕ, ◌+◌, ◌*◌, ◌<◌, ◌≤◌, ◌^◌, List, [], ◌∷◌, Some, IsTrue}
+use Rattle.std.specs.Prelude.{◌≡◌, ◌⊎◌, ℕ, ◌+◌, ◌*◌, ◌<◌, ◌≤◌, ◌^◌, List, [], ◌∷◌, length, Some, IsTrue}
 use Rattle.std.specs.List.{AllByRecursion}
 use Rattle.rv_base.specs.declared.cells.TheConstants.{RESERVATION_CELL, FETCH_SLOT, RESERVATION_SLOT}
 use Rattle.rv_base.specs.declared.machine.TheConstants.{EXIT, MISALIGNED_STORE}
@@ -31,6 +31,7 @@ pub record StepFits (i : Image) (input : List ℕ) (n : ℕ) : Type 0 where
   pub version : (run i input n).version ≡ i.version
   pub taken : (run i input n).position ≤ 4 * n
   pub put : AreBytes (run i input n).output
+  pub put_most : length (run i input n).output ≤ 4 * n
   pub values : (c : ℕ) → value (run i input n) c < 2 ^ 32
   pub slots : Rises FETCH_SLOT (RESERVATION_SLOT + 1) (step_uses input (run i input n))
   pub cells : AreCells i.version (step_uses input (run i input n))
