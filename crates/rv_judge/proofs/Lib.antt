@@ -1,4 +1,5 @@
 pub mod Fronts
 pub mod InitialValues
+pub mod ReadingOn
 pub mod StepFound
 pub mod TuplesTaken
