@@ -38,3 +38,25 @@ last_of_all n xs all le within is =
     ap (λ (z : List ℕ). drop n z) is
     ∙ drop-drop n (length all - length xs) all
     ∙ ap (λ k. drop k all) (let e : length all - length xs + n ≡ length all - length (drop n xs) = omega (arith, le, within, length-drop n xs) in e)
+
+module _ (lanes : Lanes) (s : Subject) (extent : machine.Extent) (m new first : Machine) (left all : List ℕ) (n : ℕ) (reading : machine.is_behind extent (phase_of m) ≡ false) (w : Went lanes s (phase_of m) new left n) where
+  abbrev rest_of : List ℕ
+  rest_of = take (length left - n) (drop n left)
+
+  pub smaller : length rest_of < length left
+  smaller =
+      let less = (is_stream lanes s extent).takes (phase_of m) (phase_of new) left (drop n left) (not_behind lanes s extent (phase_of m) left reading ∙ w.found) in
+      subst (λ (zs : List ℕ). length zs < length left) (sym (behind n left)) less
+
+  pub goes : ((rest : List ℕ) → reads (step_to lanes s extent) (phase_of m) (left ++ rest) ≡ reads (step_to lanes s extent) (phase_of first) (all ++ rest))
+      → (rest : List ℕ) → reads (step_to lanes s extent) (phase_of new) (rest_of ++ rest) ≡ reads (step_to lanes s extent) (phase_of first) (all ++ rest)
+  goes before rest =
+      ap (λ (zs : List ℕ). reads (step_to lanes s extent) (phase_of new) (zs ++ rest)) (behind n left)
+      ∙ goes_on lanes s extent (phase_of m) (phase_of new) left (drop n left) rest reading w.found
+      ∙ before rest
+
+  pub is_within : length left ≤ length all → length rest_of ≤ length all
+  is_within le = subst (λ (zs : List ℕ). length zs ≤ length all) (sym (behind n left)) (omega (arith, le, length-drop n left))
+
+  pub is_last : length left ≤ length all → left ≡ drop (length all - length left) all → rest_of ≡ drop (length all - length rest_of) all
+  is_last le is = subst (λ (zs : List ℕ). zs ≡ drop (length all - length zs) all) (sym (behind n left)) (last_of_all n left all w.taken le is)
