@@ -3,3 +3,4 @@ pub mod InitialValues
 pub mod ReadingOn
 pub mod StepFound
 pub mod TuplesTaken
+pub mod WholeFile

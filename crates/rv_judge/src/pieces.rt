@@ -10,6 +10,7 @@ ghost use Rattle.rv_judge.specs.Held.{IsWholeFront, comes};
 ghost use Rattle.rv_judge.specs.Conclusions.{AcceptsRecords, IsSound};
 
 use crate::held::Reading;
+use crate::laws::verdicts_conclude;
 use crate::subject::Subject;
 use crate::whole::first;
 use arrayvec::ArrayVec;
@@ -91,6 +92,7 @@ impl<'a, L: Lanes> Judge<'a, L> {
         ensures accepts { (elf input file : List ℕ) → AreBytes elf → AreBytes input
             → comes L.lanes self.entry [] ≡ verdict_is L.lanes elf input file → AcceptsRecords L.lanes elf input file result }
     {
+        verdicts_conclude();
         let Judge { lanes, state } = self;
         match state {
             Ok(reading) => reading.finish(&lanes),
