@@ -1,4 +1,5 @@
 pub mod Fronts
+pub mod Headers
 pub mod InitialValues
 pub mod ReadingOn
 pub mod StepFound

@@ -1,15 +1,16 @@
 -- Reading a whole file on, and what is known where it stops.
-use Rattle.std.proofs.Common.{◌≡◌, ◌∙◌, ℕ, zero, suc, ◌+◌, ◌<◌, ◌≤◌, Bool, true, false, cond, ◌==◌, List, [], ◌∷◌, ◌++◌, length, take, drop, Option, Some, None, Result, Ok, Err, refl, sym, ap, subst, append_assoc, arith}
+use Rattle.std.proofs.Common.{◌≡◌, ◌∙◌, ℕ, zero, suc, ◌+◌, ◌<◌, ◌≤◌, Bool, true, false, cond, ◌==◌, List, [], ◌∷◌, ◌++◌, length, take, drop, get_or, Option, Some, None, Result, Ok, Err, refl, sym, ap, subst, append_assoc, arith}
 use Rattle.std.proofs.lemmas.Bool.{eqb-true, eqb-false}
-use Rattle.std.proofs.lemmas.List.{append-nil, take-append-drop}
+use Rattle.std.proofs.lemmas.List.{append-nil, nil_from_length, take-append-drop, take_more}
 use Rattle.rv_base.specs.declared.record.Header.{Header}
+use Rattle.rv_base.specs.declared.record.Place.{Place}
 use Rattle.rv_base.specs.declared.record.Refusal.{Refusal}
 use Rattle.rv_base.specs.declared.record.Verdict.TheVariants.{Refuse}
 use Rattle.rv_spec.specs.Digest.{Lanes}
 use Rattle.rv_rules.specs.Checks.{◌>>=◌}
 use Rattle.rv_reading.specs.Stream.{IsStream, Found, State, onwards, reads, reads_in, patient, with_patience, settle}
 use Rattle.rv_reading.specs.Machine as machine
-use Rattle.rv_reading.specs.Machine.{told}
+use Rattle.rv_reading.specs.Machine.{told, step as machine_step}
 use Rattle.rv_reading.specs.Machine.Phase.{Shards, Rows, Entries}
 use Rattle.rv_reading.specs.Machine.Extent.{WholeFile}
 use Rattle.rv_reading.proofs.Lemmas.{machine_is_stream, whole_file_is_read, reads-step, reads-stops, states_wait, waiting_refused}
@@ -95,16 +96,16 @@ module _ (lanes : Lanes) (first cur : Reading) (xs ys : List ℕ) (on : ReadOn l
   }
 
   pub on_and_refused : (r : Refusal) → RefusedOn lanes cur (cur.buffer.items ++ ys) r → RefusedOn lanes first (xs ++ ys) r
-  on_and_refused r no = record { rule = no.rule; stays = λ rest. sym (regrouped rest) ∙ no.stays rest }
+  on_and_refused r refused = record { rule = refused.rule; stays = λ rest. sym (regrouped rest) ∙ refused.stays rest }
 
   pub on_and_reads : (new : Reading) (answer : Result (Unit {0}) Refusal) → ReadsOn lanes cur new (cur.buffer.items ++ ys) answer → ReadsOn lanes first new (xs ++ ys) answer
   on_and_reads new (Ok u) more = on_and_on new more
-  on_and_reads new (Err r) no = on_and_refused r no
+  on_and_reads new (Err r) refused = on_and_refused r refused
 
 pub refused_more : (lanes : Lanes) (old : Reading) (xs ys : List ℕ) (r : Refusal) → RefusedOn lanes old xs r → RefusedOn lanes old (xs ++ ys) r
-refused_more lanes old xs ys r no = record {
-  rule = no.rule;
-  stays = λ rest. ap (λ (z : List ℕ). reads (step lanes old.subject) (phase_of old.machine) z) (append_assoc xs ys rest) ∙ no.stays (ys ++ rest);
+refused_more lanes old xs ys r before = record {
+  rule = before.rule;
+  stays = λ rest. ap (λ (z : List ℕ). reads (step lanes old.subject) (phase_of old.machine) z) (append_assoc xs ys rest) ∙ before.stays (ys ++ rest);
 }
 
 pub on_nothing : (lanes : Lanes) (old : Reading) → IsReading lanes old → ReadOn lanes old old (old.buffer.items ++ [])
@@ -126,3 +127,19 @@ only_short lanes x r is e =
     let refuses = told_refuses x.subject.header (reads (step lanes x.subject) (phase_of x.machine) (x.buffer.items ++ [])) r e in
     let here = sym (ap (λ (z : List ℕ). reads (step lanes x.subject) (phase_of x.machine) z) (append-nil x.buffer.items)) ∙ refuses in
     waiting_refused (step lanes x.subject) (is_stream lanes x.subject) (phase_of x.machine) x.buffer.items r is.waits here
+
+pub nothing_held : (xs : List ℕ) → (length xs == 0) ≡ true → xs ≡ []
+nothing_held xs e = nil_from_length xs (eqb-true (length xs) 0 e)
+
+-- a piece is what was taken of it, a byte, and the rest
+pub piece_cut : (held piece : List ℕ) (k : ℕ) → k < length piece → ((held ++ take k piece) ++ get_or piece k 0 ∷ []) ++ drop (k + 1) piece ≡ held ++ piece
+piece_cut held piece k lt =
+    ap (λ (z : List ℕ). z ++ drop (k + 1) piece) (append_assoc held (take k piece) (get_or piece k 0 ∷ []) ∙ ap (λ (z : List ℕ). held ++ z) (sym (take_more piece k 0 lt)))
+    ∙ append_assoc held (take (k + 1) piece) (drop (k + 1) piece)
+    ∙ ap (λ (z : List ℕ). held ++ z) (take-append-drop (k + 1) piece)
+
+-- before the first shard more bytes are wanted
+pub begun_waits : (lanes : Lanes) (s : Subject) (n : ℕ) (p : Place) (all : machine.Sums) → patient (step lanes s) (Shards n 0 p all) [] ≡ Ok None
+unfolding machine_step
+begun_waits lanes s zero p all = refl
+begun_waits lanes s (suc n) p all = refl
