@@ -2,7 +2,7 @@
 use Rattle.std.proofs.Common.{◌≡◌, ◌∙◌, ◌⊎◌, ℕ, ◌+◌, ◌-◌, ◌<◌, ◌≤◌, Bool, true, false, cond, not, ◌==◌, ◌&&◌, ◌||◌, nat_le, bytes_eq, List, [], ◌∷◌, ◌++◌, length, take, drop, get_or, Option, Some, None, Result, Ok, Err, refl, sym, ap, subst, inl, inr, arith}
 use Rattle.std.specs.Int.{IsInRange, is_in_range, div_ceil}
 use Rattle.std.proofs.lemmas.Bool.{leb-true, le-leb, eqb-true, and_parts, cases_lt}
-use Rattle.std.proofs.lemmas.List.{take-take}
+use Rattle.std.proofs.lemmas.List.{append-nil, take-take}
 use Rattle.sha2.specs.Sha512.{sha512}
 use Rattle.rv_base.specs.declared.record.Header.{Header}
 use Rattle.rv_base.specs.declared.record.Refusal.{Refusal}
@@ -247,3 +247,24 @@ module _ (lanes : Lanes) (elf input file : List ℕ) where
         ∙ ap (λ o. told h (refused_by 0 0 o (drop 173 file) >>= λ behind. reading h (take h.length behind) (first_phase true lanes elf input h) (drop h.length behind))) none_broken
         ∙ ap (λ (x : Header). told x (reading x (take x.length (drop 173 file)) (first_phase true lanes elf input x) (drop x.length (drop 173 file)))) is_header
         ∙ (λ i. told k (reading k (sym out i) (sym begun i) (drop k.length (drop 173 file)))))
+
+-- ---- as the code has them
+
+-- a file that begins with its front
+pub opened_comes : (lanes : Lanes) (elf input front : List ℕ) (k : Header) (output : List ℕ) (s : Subject) (p : machine.Phase) (held : List ℕ) → IsWholeFront front
+    → unless_broken 0 0 (header_checks true lanes elf input front) (header_of front) ≡ Ok k → output ≡ drop 173 front → s ≡ record { elf = elf; input = input; header = k; output = output }
+    → p ≡ first_phase true lanes s.elf s.input s.header → held ≡ []
+    → (rest : List ℕ) → told s.header (reads (step lanes s) p (held ++ rest)) ≡ verdict lanes elf input (front ++ rest)
+opened_comes lanes elf input front k output s p held whole e out is begun none rest =
+    (λ i. told (is i).header (reads (step lanes (is i)) p (none i ++ rest)))
+    ∙ front_goes lanes elf input front k output p e (begun ∙ ap (λ (z : Subject). first_phase true lanes z.elf z.input z.header) is) whole out rest
+
+-- a whole file
+pub whole_comes : (lanes : Lanes) (elf input file : List ℕ) (k : Header) (output shards : List ℕ) (s : Subject) (p : machine.Phase)
+    → unless_broken 0 0 (header_checks true lanes elf input file) (header_of file) ≡ Ok k → output ≡ take k.length (drop 173 file) → shards ≡ drop k.length (drop 173 file)
+    → s ≡ record { elf = elf; input = input; header = k; output = output } → p ≡ first_phase true lanes s.elf s.input s.header
+    → told k (reads (step lanes s) p (shards ++ [])) ≡ verdict lanes elf input file
+whole_comes lanes elf input file k output shards s p e out rest is begun =
+    (λ i. told k (reads (step lanes (is i)) p (append-nil shards i)))
+    ∙ ap (λ (z : List ℕ). told k (reads (step lanes (record { elf = elf; input = input; header = k; output = output })) p z)) rest
+    ∙ file_goes lanes elf input file k output p e (begun ∙ ap (λ (z : Subject). first_phase true lanes z.elf z.input z.header) is) out

@@ -1,3 +1,4 @@
+pub mod Concluding
 pub mod Fronts
 pub mod Headers
 pub mod InitialValues

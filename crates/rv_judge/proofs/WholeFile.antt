@@ -143,3 +143,6 @@ pub begun_waits : (lanes : Lanes) (s : Subject) (n : ℕ) (p : Place) (all : mac
 unfolding machine_step
 begun_waits lanes s zero p all = refl
 begun_waits lanes s (suc n) p all = refl
+
+pub opened_waits : (lanes : Lanes) (s : Subject) (p : machine.Phase) (held : List ℕ) → p ≡ machine.first_phase true lanes s.elf s.input s.header → held ≡ [] → patient (step lanes s) p held ≡ Ok None
+opened_waits lanes s p held begun none = (λ i. patient (step lanes s) (begun i) (none i)) ∙ begun_waits lanes s s.header.shards _ _
