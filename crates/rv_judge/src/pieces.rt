@@ -103,6 +103,13 @@ impl<'a, L: Lanes> Judge<'a, L> {
             → comes L.lanes self.entry [] ≡ verdict_is L.lanes elf input file → AcceptsRecords L.lanes elf input file result }
     {
         verdicts_conclude();
+        self.verdict()
+    }
+
+    /// The verdict by the definition.
+    fn verdict(self) -> Verdict
+        ensures { result ≡ comes L.lanes self.entry [] }
+    {
         let Judge { lanes, state } = self;
         match state {
             Ok(reading) => reading.finish(&lanes),
