@@ -2,9 +2,11 @@
 use Rattle.std.proofs.Common.{◌≡◌, ℕ, zero, suc, ◌+◌, ◌-◌, ◌*◌, ◌<◌, ◌≤◌, Bool, true, false, cond, not, ◌==◌, ◌&&◌, nat_le, bytes_eq, List, [], ◌∷◌, ◌++◌, length, drop, map, get_or, Option, Some, None, Ok, Err, refl, sym, ap, ◌∙◌, arith}
 use Rattle.std.proofs.lemmas.Bool.{le-leb, leb-true}
 use Rattle.std.proofs.lemmas.List.FromFn.{length-map-range_with_len}
+use Rattle.rv_base.specs.declared.record.Header.{Header}
 use Rattle.rv_base.specs.declared.record.Place.{Place}
 use Rattle.rv_base.specs.declared.record.Refusal.{Refusal}
 use Rattle.rv_base.specs.declared.record.ShardHead.{ShardHead}
+use Rattle.rv_base.specs.declared.record.TableEntry.{TableEntry}
 use Rattle.rv_spec.specs.Words.{u32_at}
 use Rattle.rv_spec.specs.Trace.{Row}
 use Rattle.rv_spec.specs.Digest.{Lanes}
@@ -25,6 +27,10 @@ held rule b cs e = ap (λ z. cond z (first_broken cs) (Some rule)) e
 
 pub broke : (rule : ℕ) (b : Bool) (cs : List Check) → b ≡ false → first_broken ((rule, b) ∷ cs) ≡ Some rule
 broke rule b cs e = ap (λ z. cond z (first_broken cs) (Some rule)) e
+
+pub not_not : (b : Bool) → not (not b) ≡ b
+not_not true = refl
+not_not false = refl
 
 few : (n k : ℕ) → n < k → nat_le k n ≡ false
 few n k lt = go (nat_le k n) refl
@@ -59,6 +65,10 @@ front_broke (a ∷ cs) bs rule e = go a.1 refl e (front_broke cs bs rule)
 -- a row is as long as its bytes
 row_length-row_of : (bytes : List ℕ) → row_length (row_of bytes) ≡ row_size bytes
 row_length-row_of bytes = ap (λ n. 9 + 21 * n) (length-map-range_with_len (λ j. access_of (drop (9 + 21 * j) bytes)) 0 (get_or bytes 8 0))
+
+-- the rule that an entry breaks, by what was read of header and entry
+pub entry_rule : (before : Option ℕ) (h k : Header) (e f : TableEntry) (o : Option ℕ) → h ≡ k → e ≡ f → first_broken (entry_checks h.version before e) ≡ o → first_broken (entry_checks k.version before f) ≡ o
+entry_rule before h k e f o same entry is = ap (λ (z : Header). first_broken (entry_checks z.version before f)) (sym same) ∙ ap (λ (z : TableEntry). first_broken (entry_checks h.version before z)) (sym entry) ∙ is
 
 module _ (lanes : Lanes) (s : Subject) where
   abbrev at : ℕ → ℕ → ℕ → Refusal

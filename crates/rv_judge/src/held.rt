@@ -1,6 +1,7 @@
 //! What a judge holds between pieces.
 
 ghost use Rattle.std.specs.Prelude.{◌≡◌, ◌<◌, ◌∷◌, ◌++◌, [], length};
+ghost use Rattle.rv_reading.specs.Stream.{with_patience};
 ghost use Rattle.rv_reading.specs.Machine.{told};
 ghost use Rattle.rv_judge.specs.Phases.{Fits, stopped};
 ghost use Rattle.rv_judge.specs.Held.{IsReading, ReadsOn, comes, held_of};
@@ -30,10 +31,8 @@ impl<'c, 'p> Reading<'c, 'p> {
         ensures { ReadsOn L.lanes self.old self.new bytes.now result }
     {
         let stop = self.machine.read(&self.subject, lanes, Extent::File, bytes);
-        if let Some(refusal) = stop.refusal {
-            if refusal.rule != SHORT {
-                return Err(refusal);
-            }
+        if let Some(refusal) = lasting(stop.refusal) {
+            return Err(refusal);
         }
         self.buffer = kept(stop.left);
         Ok(())
@@ -71,6 +70,22 @@ impl<'c, 'p> Reading<'c, 'p> {
         let mut machine = self.machine;
         let stop = machine.read(&self.subject, lanes, Extent::File, self.buffer.as_slice());
         verdict_on(self.subject.header(), stop.refusal)
+    }
+}
+
+/// The refusal that bytes which follow don't change.
+fn lasting(refusal: Option<Refusal>) -> Option<Refusal>
+    ensures { stopped result ≡ with_patience (stopped refusal) }
+{
+    match refusal {
+        Some(refusal) => {
+            if refusal.rule == SHORT {
+                None
+            } else {
+                Some(refusal)
+            }
+        }
+        None => None,
     }
 }
 

@@ -4,6 +4,7 @@
 
 mod alone;
 mod held;
+pub mod laws;
 mod phases;
 mod pieces;
 mod reading;

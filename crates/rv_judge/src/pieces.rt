@@ -3,13 +3,15 @@
 ghost use Rattle.std.specs.Prelude.{◌≡◌, ℕ, List, [], ◌++◌, IfSome, Some, None};
 ghost use Rattle.rv_base.specs.declared.rules.TheConstants.{SHORT};
 ghost use Rattle.rv_base.specs.declared.record.Verdict.TheVariants.{Refuse};
+ghost use Rattle.rv_spec.specs.Digest.{Lanes as LanesOf};
 ghost use Rattle.rv_spec.specs.Elf.{first_fault};
 ghost use Rattle.rv_spec.specs.Words.{AreBytes};
 ghost use Rattle.rv_rules.specs.Verdict.{verdict as verdict_is};
-ghost use Rattle.rv_judge.specs.Held.{IsWholeFront, comes};
+ghost use Rattle.rv_judge.specs.Held.{IsState, IsWholeFront, comes, state_of};
 ghost use Rattle.rv_judge.specs.Conclusions.{AcceptsRecords, IsSound};
 
 use crate::held::Reading;
+use crate::laws::verdicts_conclude;
 use crate::subject::Subject;
 use crate::whole::first;
 use arrayvec::ArrayVec;
@@ -18,6 +20,25 @@ use rv_base::{Refusal, Verdict};
 use rv_digest::Lanes;
 use rv_program::{Program, check_front};
 use std::marker::Model;
+
+/// What is held behind the front of a file.
+fn opened<'a>(program: &'a Program<'a>, front: &'a [u8]) -> Result<Reading<'a, 'a>, Refusal>
+    requires { IsWholeFront front.now }
+    ensures is { (lanes : LanesOf) → IsState lanes result }
+    ensures comes { (lanes : LanesOf) (rest : List ℕ) → comes lanes (state_of result) rest ≡ verdict_is lanes program.now.elf program.now.input (front.now ++ rest) }
+{
+    match check_front(program, front) {
+        Ok(header) => {
+            let subject = Subject::new(program, &header, &front[HEADER_BYTES..]);
+            Ok(Reading {
+                machine: first(&subject),
+                subject,
+                buffer: ArrayVec::new(),
+            })
+        }
+        Err(refusal) => Err(refusal),
+    }
+}
 
 /// A judge of a record file that comes in pieces. It holds a fixed state, at most 256 bytes of the file, and takes no memory. Contracts see what
 /// comes of it, for each list of bytes that may follow.
@@ -45,17 +66,7 @@ impl<'a, L: Lanes> Judge<'a, L> {
         requires { IsWholeFront front.now }
         ensures { (rest : List ℕ) → comes L.lanes result rest ≡ verdict_is L.lanes program.now.elf program.now.input (front.now ++ rest) }
     {
-        let state = match check_front(program, front) {
-            Ok(header) => {
-                let subject = Subject::new(program, &header, &front[HEADER_BYTES..]);
-                Ok(Reading {
-                    machine: first(&subject),
-                    subject,
-                    buffer: ArrayVec::new(),
-                })
-            }
-            Err(refusal) => Err(refusal),
-        };
+        let state = opened(program, front);
         Judge { lanes, state }
     }
 
@@ -90,6 +101,14 @@ impl<'a, L: Lanes> Judge<'a, L> {
         // Then the record of a run is accepted.
         ensures accepts { (elf input file : List ℕ) → AreBytes elf → AreBytes input
             → comes L.lanes self.entry [] ≡ verdict_is L.lanes elf input file → AcceptsRecords L.lanes elf input file result }
+    {
+        verdicts_conclude();
+        self.verdict()
+    }
+
+    /// The verdict by the definition.
+    fn verdict(self) -> Verdict
+        ensures { result ≡ comes L.lanes self.entry [] }
     {
         let Judge { lanes, state } = self;
         match state {

@@ -4,7 +4,7 @@ use Rattle.rv_base.specs.declared.record.ShardHead.{ShardHead}
 use Rattle.rv_reading.specs.Machine.{Sums, begin_shard}
 use Rattle.rv_reading.specs.Machine.Phase.{Rows}
 use Rattle.rv_judge.specs.Phases.{sums_of}
-use Rattle.rv_judge.proofs.StepFound.{head_short, head_other, head_went, is_head_of, rows_fit}
+use Rattle.rv_judge.proofs.StepFound.{head_short, head_other, head_went, rows_fit}
 use Rattle.rv_judge.proofs.phases.Machine.begin_shard.Goals as goal
 
 pub returns-in_default : goal.returns-in_default
