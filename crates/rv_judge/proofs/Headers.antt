@@ -1,6 +1,6 @@
 -- The header in front of a file, and the checks of it.
-use Rattle.std.proofs.Common.{◌≡◌, ◌∙◌, ◌⊎◌, ℕ, ◌+◌, ◌-◌, ◌<◌, ◌≤◌, Bool, true, false, cond, not, ◌==◌, ◌&&◌, ◌||◌, nat_le, bytes_eq, List, [], ◌∷◌, ◌++◌, length, take, drop, get_or, Option, Some, None, Result, Ok, Err, refl, sym, ap, subst, inl, inr, arith}
-use Rattle.std.specs.Int.{IsInRange, is_in_range, div_ceil}
+use Rattle.std.proofs.Common.{◌≡◌, ◌∙◌, ◌⊎◌, ℕ, ◌+◌, ◌≤◌, Bool, true, false, cond, not, ◌==◌, ◌&&◌, ◌||◌, nat_le, bytes_eq, List, [], ◌∷◌, ◌++◌, length, take, drop, get_or, Option, Some, None, Ok, Err, refl, sym, ap, inl, inr, arith}
+use Rattle.std.specs.Int.{is_in_range, div_ceil}
 use Rattle.std.proofs.lemmas.Bool.{leb-true, le-leb, eqb-true, and_parts, cases_lt}
 use Rattle.std.proofs.lemmas.List.{append-nil, take-take}
 use Rattle.sha2.specs.Sha512.{sha512}
@@ -12,7 +12,7 @@ use Rattle.rv_spec.specs.Record.{magic}
 use Rattle.rv_rules.specs.Checks.{Check, first_broken, refused_by, unless_broken, ◌>>=◌}
 use Rattle.rv_rules.specs.Reading.{header_of, header_checks, number_checks, when_complete}
 use Rattle.rv_rules.specs.Verdict.{verdict}
-use Rattle.rv_file.specs.Front.{front_length, is_record}
+use Rattle.rv_file.specs.Front.{is_record}
 use Rattle.rv_file.proofs.Lemmas.{unless_ok}
 use Rattle.rv_reading.specs.Stream.{State, reads}
 use Rattle.rv_reading.specs.Machine as machine
