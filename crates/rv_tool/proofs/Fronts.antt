@@ -10,7 +10,7 @@ use Rattle.rv_rules.specs.Reading.{header_of}
 use Rattle.rv_file.specs.Front.{front_length, is_record}
 use Rattle.rv_host.specs.Views.{ShelfView}
 use Rattle.rv_plan.specs.FileCalls.{IsUnchanged}
-use Rattle.rv_tool.specs.Judging.{IsWholeFront}
+use Rattle.rv_judge.specs.Held.{IsWholeFront}
 
 pub unchanged_both : {s s' s'' : ShelfView} → IsUnchanged s s' → IsUnchanged s' s'' → IsUnchanged s s''
 unchanged_both h k = record { files = k.files ∙ h.files; reads = λ name. k.reads name ∙ h.reads name; writes = λ name. k.writes name ∙ h.writes name }

@@ -1,5 +1,6 @@
 mod Arguments
+mod Differing
+mod Examples
+mod Fronts
 mod Listed
 mod Running
-mod Examples
-mod Differing

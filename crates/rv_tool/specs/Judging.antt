@@ -1,11 +1,10 @@
 -- What judging a record file on a shelf gives, by what it answers.
-use Rattle.std.specs.Prelude.{◌≡◌, ◌<◌, ℕ, List, length, take, Vec, Some, Result, Ok, Err}
+use Rattle.std.specs.Prelude.{◌≡◌, ℕ, List, length, take, Vec, Some, Result, Ok, Err}
 use Rattle.std.specs.declared.alloc.Global.{Global}
-use Rattle.rv_base.specs.declared.layout.TheConstants.{HEADER_BYTES}
 use Rattle.rv_base.specs.declared.record.Verdict.{Verdict}
 use Rattle.rv_spec.specs.Digest.{sha_lanes}
 use Rattle.rv_rules.specs.Verdict.{verdict}
-use Rattle.rv_file.specs.Front.{front_length}
+use Rattle.rv_judge.specs.Held.{IsWholeFront}
 use Rattle.rv_judge.specs.Conclusions.{IsSound}
 use Rattle.rv_host.specs.Counts.{Rose}
 use Rattle.rv_host.specs.Files.{Files, file}
@@ -23,7 +22,7 @@ AreFirst before name bytes = (told : Files) → before.files ≡ Some told → b
 abbrev pub ReadsFront : List ℕ → ShelfView → ShelfView → Result (Vec ℕ Global) Fault → Type 0
 ReadsFront name before after (Ok front) =
     IsUnchanged before after × AreFirst before name front.items
-    × ((¬ ((HEADER_BYTES < length front.items + 1) × (length front.items ≡ front_length (take HEADER_BYTES front.items)))) → (told : Files) → before.files ≡ Some told → front.items ≡ file told name)
+    × ((¬ IsWholeFront front.items) → (told : Files) → before.files ≡ Some told → front.items ≡ file told name)
 ReadsFront name before after (Err Read) = Leaves before after × Rose (before.read_faults name) (after.read_faults name)
 ReadsFront name before after (Err Memory) = Leaves before after
 ReadsFront name before after (Err _) = ⊥

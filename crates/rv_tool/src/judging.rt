@@ -56,10 +56,11 @@ fn read_front<S: Shelf>(alloc: Global, shelf: &mut S, name: &str) -> Result<Vec<
 {
     let mut front = Vec::new(alloc);
     read_on(alloc, shelf, name, &mut front, HEADER_BYTES)?;
-    if let Some(header) = front.first_chunk::<HEADER_BYTES>() {
-        let length = front_len(header);
-        read_on(alloc, shelf, name, &mut front, length)?;
-    }
+    let length = match front.first_chunk::<HEADER_BYTES>() {
+        Some(header) => front_len(header),
+        None => return Ok(front),
+    };
+    read_on(alloc, shelf, name, &mut front, length)?;
     Ok(front)
 }
 
