@@ -2,5 +2,6 @@ mod Arguments
 mod Differing
 mod Examples
 mod Fronts
+mod Judged
 mod Listed
 mod Running

@@ -1,10 +1,12 @@
 -- What judging a record file on a shelf gives, by what it answers.
-use Rattle.std.specs.Prelude.{◌≡◌, ℕ, List, length, take, Vec, Some, Result, Ok, Err}
+use Rattle.std.specs.Prelude.{◌≡◌, ℕ, List, ◌++◌, length, take, Vec, Some, Result, Ok, Err}
 use Rattle.std.specs.declared.alloc.Global.{Global}
 use Rattle.rv_base.specs.declared.record.Verdict.{Verdict}
 use Rattle.rv_spec.specs.Digest.{sha_lanes}
 use Rattle.rv_rules.specs.Verdict.{verdict}
-use Rattle.rv_judge.specs.Held.{IsWholeFront}
+use Rattle.rv_base.specs.declared.record.Refusal.{Refusal}
+use Rattle.rv_spec.specs.Words.{AreBytes}
+use Rattle.rv_judge.specs.Held.{Held, IsWholeFront, comes}
 use Rattle.rv_judge.specs.Conclusions.{IsSound}
 use Rattle.rv_host.specs.Counts.{Rose}
 use Rattle.rv_host.specs.Files.{Files, file}
@@ -34,3 +36,10 @@ Judges name elf input before after (Ok answer) =
 Judges name elf input before after (Err Read) = Leaves before after × Rose (before.read_faults name) (after.read_faults name)
 Judges name elf input before after (Err Memory) = Leaves before after
 Judges name elf input before after (Err _) = ⊥
+
+-- How far a record file was judged: these bytes behind its front were fed, and what comes of the judge is the verdict.
+pub record IsFed (before : ShelfView) (name elf input front : List ℕ) (at : ℕ) (judge : Result Held Refusal) (fed : List ℕ) : Type 0 where
+  pub bytes : AreBytes fed
+  pub place : at ≡ length (front ++ fed)
+  pub verdict_is : (rest : List ℕ) → comes sha_lanes judge rest ≡ verdict sha_lanes elf input ((front ++ fed) ++ rest)
+  pub first : AreFirst before name (front ++ fed)
