@@ -1,0 +1,9 @@
+pub mod Concluding
+pub mod Fronts
+pub mod Headers
+pub mod InitialValues
+pub mod PartsAlone
+pub mod ReadingOn
+pub mod StepFound
+pub mod TuplesTaken
+pub mod WholeFile

@@ -1,0 +1,5 @@
+pub mod Subject
+pub mod Phases
+pub mod Held
+pub mod Alone
+pub mod Conclusions

@@ -1,0 +1,86 @@
+//! Rows of a shard.
+
+ghost use Rattle.std.specs.Prelude.{◌≡◌, ◌+◌, ◌-◌, ◌*◌, ◌^◌, ◌<◌, ◌≤◌, IfOk};
+ghost use Rattle.rv_base.specs.declared.limits.TheConstants.{SHARD_SIZE_LIMIT};
+ghost use Rattle.rv_rules.specs.Reading.{last_of};
+ghost use Rattle.rv_row.specs.RowReading.{row_view};
+ghost use Rattle.rv_rowcheck.specs.RowChecking.{AnswersRow, IsPlace};
+ghost use Rattle.rv_judge.specs.declared.phases.Phase.TheVariants.{Rows as RowsPhase};
+ghost use Rattle.rv_judge.specs.Phases.{Goes, FitsAt, longest_row, phase_at};
+
+use crate::phases::{Machine, Phase, RowsLeft};
+use crate::subject::Subject;
+use rv_base::rules::{ROW_SHAPE, SHORT};
+use rv_base::{Place, Refusal};
+use rv_digest::Lanes;
+use rv_row::{Row, RowRead, read_row};
+use rv_rowcheck::check_row;
+
+/// The place after a row, or the least rule that it breaks at a place.
+fn judge_row(subject: &Subject<'_, '_>, row: &Row, step: u64, place: Place) -> Result<Place, u8>
+    requires step { step < 2 ^ 32 }
+    requires place { IsPlace place subject.now.input subject.now.output }
+    ensures answer { AnswersRow subject.now.header.version (row_view row.now) step place (last_of subject.now.header step) subject.now.input subject.now.output result }
+    ensures next { IfOk result (λ after. IsPlace after subject.now.input subject.now.output) }
+{
+    check_row(
+        subject.header().version,
+        row,
+        step,
+        place,
+        subject.last(step),
+        subject.input(),
+        subject.output(),
+    )
+}
+
+impl RowsLeft {
+    /// Behind a row of so many bytes.
+    fn behind_row(&self, length: usize) -> RowsLeft
+        requires some { 0 < self.now.left }
+        requires next { self.now.next < SHARD_SIZE_LIMIT }
+        requires before { self.now.bytes ≤ longest_row * self.now.next }
+        requires length { length ≤ longest_row }
+        ensures { result ≡ record self.now { left = self.now.left - 1; next = self.now.next + 1; bytes = self.now.bytes + length } }
+    {
+        RowsLeft {
+            left: self.left - 1,
+            next: self.next + 1,
+            bytes: self.bytes + length as u32,
+            ..*self
+        }
+    }
+}
+
+impl Machine {
+    /// The next row of a shard.
+    pub(crate) fn row<L: Lanes>(
+        &mut self,
+        subject: &Subject<'_, '_>,
+        lanes: &L,
+        rows: RowsLeft,
+        bytes: &[u8],
+    ) -> Result<usize, Refusal>
+        requires some { 0 < rows.left }
+        requires fits { FitsAt subject.now self.old.place (RowsPhase rows) }
+        ensures { Goes L.lanes subject.now (phase_at (RowsPhase rows) self.old.place self.old.shard self.old.all) self.old self.new bytes.now result }
+    {
+        match read_row(bytes) {
+            RowRead::Row(row, length) => {
+                let step = subject.step_of(rows.shard, rows.next);
+                match judge_row(subject, &row, step, self.place) {
+                    Ok(after) => {
+                        self.phase = Phase::Rows(rows.behind_row(length));
+                        self.place = after;
+                        self.shard
+                            .add_accesses(lanes, step, row.accesses.as_slice());
+                        Ok(length)
+                    }
+                    Err(rule) => Err(Refusal::at(rows.shard, rows.next, rule)),
+                }
+            }
+            RowRead::Short => Err(Refusal::at(rows.shard, rows.next, SHORT)),
+            RowRead::Shape => Err(Refusal::at(rows.shard, rows.next, ROW_SHAPE)),
+        }
+    }
+}
