@@ -123,7 +123,13 @@ fn digest(tuples: &[Tuple]) -> [u8; 128] {
 #[test]
 fn the_record_is_the_run(rt: HostRuntime) -> Result<(), Fail> {
     let program = Program::open(&ELF, &[])?;
-    let file = record(rt.alloc(), &program, 42, &digest(&reads()), &digest(&writes()))?;
+    let file = record(
+        rt.alloc(),
+        &program,
+        42,
+        &digest(&reads()),
+        &digest(&writes()),
+    )?;
     assert_eq!(rt; file.len(), 719);
     let settled = settle(rt.alloc(), &program, &file, ShaLanes)?;
     assert_eq!(rt; settled, Settled::Run { steps: 3 });
