@@ -64,7 +64,7 @@ same_files : (o : Option Files) → option_map (λ told. with_due told []) o ≡
 same_files None = refl
 same_files (Some files) = refl
 
-nothing_written : (s s' : ShelfView) → Leaves s s' → IsWritten [] s s'
+pub nothing_written : (s s' : ShelfView) → Leaves s s' → IsWritten [] s s'
 nothing_written s s' h = record { files = h.files ∙ sym (same_files s.files); writes = h.writes }
 
 unwritten_files : (o : Outcome) (s s' : ShelfView) → o.writes ≡ [] → IsWritten o.writes s s' → s'.files ≡ s.files

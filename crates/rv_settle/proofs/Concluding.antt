@@ -11,10 +11,10 @@ use Rattle.rv_spec.specs.Multiset.{Same}
 use Rattle.rv_spec.specs.Record.{Parts, reads, writes}
 use Rattle.rv_spec.specs.Grammar.{Spells}
 use Rattle.rv_spec.specs.Conclusion.{IsRecord, IsCollision}
-use Rattle.rv_rules.specs.Verdict.{judge, parse, verdict, verdict_of}
+use Rattle.rv_rules.specs.Verdict.{judge, verdict_of}
 use Rattle.rv_rules.specs.Laws.{AcceptedIsRecord}
 use Rattle.rv_file.proofs.Lemmas.{form_is_grammar, ok_is}
-use Rattle.rv_sound.specs.Accepted.{IsAccepted, ReadsAccepted}
+use Rattle.rv_sound.specs.Accepted.{ReadsAccepted}
 use Rattle.rv_settle.specs.declared.settling.Settled.{Settled}
 use Rattle.rv_settle.specs.declared.settling.Settled.TheVariants.{Run, Collision, Refused}
 use Rattle.rv_settle.specs.Settling.{IsSettled, IsDecided}
@@ -57,21 +57,26 @@ record_only lanes elf input file steps p k same (inr col) = absurd (no_collision
 
 pub concluded : (lanes : Lanes) (elf input file : List ℕ) (steps : ℕ) (p : Parts) (s : Settled) → IsKnown lanes elf input file steps p
     → IsDecided (reads p) (writes (image p.header.version elf) p) steps s → IsSettled lanes elf input file s
-concluded lanes elf input file steps p (Run n) k d = (p, record {
-  accepted = k.judged;
-  same = d.0;
-  steps_are = d.1 ∙ sym k.steps_are;
-  record_of_run = record_only lanes elf input file steps p k d.0 (k.sound k.faultless k.elf_bytes k.input_bytes k.file_bytes k.judged);
-})
+concluded lanes elf input file steps p (Run n) k d = (
+  p,
+  record {
+    accepted = k.judged;
+    same = d.0;
+    steps_are = d.1 ∙ sym k.steps_are;
+    record_of_run = record_only lanes elf input file steps p k d.0 (k.sound k.faultless k.elf_bytes k.input_bytes k.file_bytes k.judged);
+  },
+)
 concluded lanes elf input file steps p (Collision d) k c =
-    let a = k.reads.accepted file p k.file_bytes k.judged in
-    (p, record {
-      accepted = k.judged;
-      least = c.0;
-      count_read = c.1;
-      count_written = c.2;
-      collision = record { parts = p; spells = a.0; one_digest = a.1.balance; differ = λ same. c.0.differs (same.counts d.tuple) };
-    })
+    let a = k.reads.accepted file p k.file_bytes k.judged in (
+      p,
+      record {
+        accepted = k.judged;
+        least = c.0;
+        count_read = c.1;
+        count_written = c.2;
+        collision = record { parts = p; spells = a.0; one_digest = a.1.balance; differ = λ same. c.0.differs (same.counts d.tuple) };
+      },
+    )
 concluded lanes elf input file steps p (Refused r) k d = absurd d
 
 -- what is decided of the lists that were collected is decided of those of the parts

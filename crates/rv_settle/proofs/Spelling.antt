@@ -1,6 +1,6 @@
 -- Bytes that begin with parts of a file, part by part.
-use Rattle.std.proofs.Common.{◌≡◌, ℕ, zero, suc, ◌+◌, ◌*◌, ◌<◌, ◌≤◌, List, [], ◌∷◌, ◌++◌, length, map, take, drop, refl, sym, ap, subst, ◌∙◌, append_assoc, arith}
-use Rattle.std.specs.Int.{w32, w64, to_le_bytes}
+use Rattle.std.proofs.Common.{◌≡◌, ℕ, ◌+◌, ◌*◌, ◌<◌, List, [], ◌∷◌, ◌++◌, length, drop, refl, sym, ap, subst, ◌∙◌, append_assoc, arith}
+use Rattle.std.specs.Int.{w64, to_le_bytes}
 use Rattle.std.specs.List.{flat_map, AllByRecursion}
 use Rattle.std.proofs.lemmas.List.{length-append, drop_at, drop-drop}
 use Rattle.rv_base.specs.declared.record.Header.{Header}
@@ -8,7 +8,7 @@ use Rattle.rv_base.specs.declared.record.ShardHead.{ShardHead}
 use Rattle.rv_spec.specs.Digest.{set_digest_bytes}
 use Rattle.rv_spec.specs.Trace.{Row}
 use Rattle.rv_spec.specs.Record.{Shard, Parts, header_bytes, head_bytes, row_bytes, shard_bytes, table_bytes, file_bytes, row_length}
-use Rattle.rv_spec.specs.Grammar.{AreNumbers, RowFits, HeaderFits, ShardFits, ShardsFit, Spells}
+use Rattle.rv_spec.specs.Grammar.{RowFits, HeaderFits, ShardFits, ShardsFit, Spells}
 use Rattle.rv_row.proofs.Lemmas.{length-row_bytes}
 use Rattle.rv_settle.specs.Spelled.{SpellRows, SpellShard, SpellShards}
 use Rattle.rv_row.specs.RowReading.{IsRow}
@@ -28,12 +28,14 @@ pub record BeginsWithRow (rs : List Row) (k : ℕ) (bytes tail : List ℕ) (r : 
 pub next_row : (rs : List Row) (k : ℕ) (bytes tail : List ℕ) → k < length rs → AllByRecursion RowFits rs → bytes ≡ flat_map row_bytes (drop k rs) ++ tail → (r : Row) × BeginsWithRow rs k bytes tail r
 next_row rs k bytes tail lt fit is =
     let p = place_of RowFits rs k lt fit in
-    let r = p.0 in
-    (r, record {
-      at = p.1;
-      fits = p.2;
-      is = is ∙ ap (λ (qs : List Row). flat_map row_bytes qs ++ tail) p.1.behind ∙ append_assoc (row_bytes r) (flat_map row_bytes (drop (k + 1) rs)) tail;
-    })
+    let r = p.0 in (
+      r,
+      record {
+        at = p.1;
+        fits = p.2;
+        is = is ∙ ap (λ (qs : List Row). flat_map row_bytes qs ++ tail) p.1.behind ∙ append_assoc (row_bytes r) (flat_map row_bytes (drop (k + 1) rs)) tail;
+      },
+    )
 
 pub behind_row : (rs : List Row) (k n : ℕ) (bytes tail : List ℕ) (r : Row) → BeginsWithRow rs k bytes tail r → n ≡ row_length r → drop n bytes ≡ flat_map row_bytes (drop (k + 1) rs) ++ tail
 behind_row rs k n bytes tail r b size =
@@ -92,14 +94,16 @@ pub next_shard : (h : Header) (ss : List Shard) (k : ℕ) (file bytes tail : Lis
 next_shard h ss k file bytes tail sp lt is =
     let p = shard_at h 0 ss k (omega (arith, lt, sp.count)) sp.fit in
     let s = p.0 in
-    let e : 0 + k ≡ k = omega arith in
-    (s, record {
-      at = p.1;
-      spelled = record {
-        fits = subst (λ n. ShardFits h n s) e p.2;
-        are = is ∙ ap (λ (qs : List Shard). flat_map shard_bytes qs ++ tail) p.1.behind ∙ append_assoc (shard_bytes s) (flat_map shard_bytes (drop (k + 1) ss)) tail;
-      };
-    })
+    let e : 0 + k ≡ k = omega arith in (
+      s,
+      record {
+        at = p.1;
+        spelled = record {
+          fits = subst (λ n. ShardFits h n s) e p.2;
+          are = is ∙ ap (λ (qs : List Shard). flat_map shard_bytes qs ++ tail) p.1.behind ∙ append_assoc (shard_bytes s) (flat_map shard_bytes (drop (k + 1) ss)) tail;
+        };
+      },
+    )
 
 -- ---- the file
 

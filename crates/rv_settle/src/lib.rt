@@ -13,4 +13,4 @@ pub use rv_base::{NoMemory, Refusal, Tuple};
 pub use rv_digest::Lanes;
 pub use rv_order::Differ;
 pub use rv_program::Program;
-pub use settling::Settled;
+pub use settling::{Settled, settle};

@@ -11,6 +11,7 @@ use crate::tuples::Tuples;
 use rv_base::{NoMemory, Refusal, Verdict};
 use rv_digest::Lanes;
 use rv_file::parse;
+use rv_judge::judge;
 use rv_order::{Differ, compare};
 use rv_program::Program;
 use rv_sound::{reading, soundness};
@@ -69,4 +70,17 @@ fn settle_verdict<L: Lanes>(
     };
     let tuples = collect(alloc, program, file, &parsed)?;
     Ok(decide(tuples, steps))
+}
+
+/// Settles a record file, for a program and its input, under the digest by these lanes. The verdict takes one pass; where it accepts, all tuples that the file reads and writes are collected and sorted, in time linear in the file but for the sorting, and in memory for two tuples of 16 bytes for each access and each entry of the table.
+pub fn settle<L: Lanes>(
+    alloc: Global,
+    program: &Program<'_>,
+    file: &[u8],
+    lanes: L,
+) -> Result<Settled, NoMemory>
+    ensures { IfOk result (IsSettled L.lanes program.now.elf program.now.input file.now) }
+{
+    let verdict = judge(program, file, lanes);
+    settle_verdict::<L>(alloc, program, file, verdict)
 }

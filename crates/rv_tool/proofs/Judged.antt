@@ -90,4 +90,4 @@ contents_of before name bytes is = go before.files is
 
 pub untrue : (b : Bool) → b ≡ false → IsTrue b → ⊥
 untrue true e h = absurd (false≢true (sym e))
-untrue false e h = absurd h
+untrue false e h = absurd (false≢true h)

@@ -1,4 +1,5 @@
 mod Arguments
+mod Checking
 mod Differing
 mod Examples
 mod Fronts

@@ -13,6 +13,12 @@ use Rattle.rv_host.specs.Files.{Files, file}
 use Rattle.rv_host.specs.Views.{ShelfView}
 use Rattle.rv_plan.specs.Endings.{IsContents, Leaves}
 use Rattle.rv_plan.specs.FileCalls.{IsUnchanged}
+use Rattle.rv_plan.specs.Plan.{Outcome}
+use Rattle.rv_plan.specs.declared.told.Told.{Told}
+use Rattle.rv_settle.specs.declared.settling.Settled.{Settled}
+use Rattle.rv_settle.specs.declared.settling.Settled.TheVariants.{Run, Collision, Refused}
+use Rattle.rv_tool.specs.Lines.{collision_line, refused_line, settled_line}
+use Rattle.rv_tool.specs.Outcome.{denies, tells}
 use Rattle.rv_plan.specs.declared.faults.Fault.{Fault}
 use Rattle.rv_plan.specs.declared.faults.Fault.TheVariants.{Read, Memory}
 
@@ -43,3 +49,16 @@ pub record IsFed (before : ShelfView) (name elf input front : List ℕ) (at : �
   pub place : at ≡ length (front ++ fed)
   pub verdict_is : (rest : List ℕ) → comes sha_lanes judge rest ≡ verdict sha_lanes elf input ((front ++ fed) ++ rest)
   pub first : AreFirst before name (front ++ fed)
+
+-- ---- what is told
+
+-- a text is told with its status, unless there is no memory for it
+abbrev pub TellsOutcome : Outcome → Result Told Fault → Type 0
+TellsOutcome o (Ok told) = (told.status ≡ o.status) × (told.text ≡ o.text)
+TellsOutcome o (Err fault) = fault ≡ Memory
+
+-- what settling tells
+abbrev pub settled_outcome : Settled → Outcome
+settled_outcome (Run steps) = tells (settled_line steps)
+settled_outcome (Collision d) = denies (collision_line d.tuple d.reads d.writes)
+settled_outcome (Refused r) = denies (refused_line r)

@@ -1,12 +1,12 @@
 //! `check`: tells the verdict on a record.
 
-ghost use Rattle.std.specs.Prelude.{◌≡◌, IfOk, IfErr};
+ghost use Rattle.std.specs.Prelude.{◌≡◌, IfOk};
 ghost use Rattle.rv_plan.specs.FileCalls.{Performs};
 ghost use Rattle.rv_tool.specs.CommandLine as command;
 ghost use Rattle.rv_tool.specs.Commands.{check_words};
 ghost use Rattle.rv_tool.specs.Headline.{Accepted};
 ghost use Rattle.rv_tool.specs.Outcome.{plan_of, told_verdict};
-ghost use Rattle.rv_plan.specs.declared.faults.Fault.TheVariants as fault;
+ghost use Rattle.rv_tool.specs.Judging.{TellsOutcome};
 
 use crate::commands::Check;
 use crate::judging::{judge_file, open};
@@ -32,9 +32,7 @@ pub fn check<S: Shelf>(alloc: Global, words: &Check<'_>, shelf: &mut S) -> Resul
 
 /// What the verdict on a record tells.
 pub fn tell_verdict(alloc: Global, verdict: Verdict) -> Result<Told, Fault>
-    ensures status { IfOk result (λ told. told.status ≡ (told_verdict verdict).status) }
-    ensures text { IfOk result (λ told. told.text ≡ (told_verdict verdict).text) }
-    ensures err { IfErr result (λ f. f ≡ fault.Memory) }
+    ensures { TellsOutcome (told_verdict verdict) result }
 {
     let (status, line) = match verdict {
         Verdict::Accept { steps, shards, end } => (0, accepted_line(alloc, steps, shards, end)),

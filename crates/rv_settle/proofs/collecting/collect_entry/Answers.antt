@@ -1,4 +1,3 @@
-use Rattle.std.proofs.Common.{ℕ, ◌∷◌, []}
 use Rattle.std.proofs.lemmas.Result.{IfOk-weaker}
 use Rattle.rv_spec.specs.Elf.{image}
 use Rattle.rv_spec.specs.Cells.{initial_value}

@@ -20,5 +20,5 @@ loop-row-preserved c rs tail size sp =
     let is = c.in-Row.ensures.only n.0 (flat_map row_bytes (drop (k + 1) rs) ++ tail) n.1.fits n.1.is in (
       c.behind-rest.ensures ∙ behind_row rs k c.in-Row.length c.loop-row.rest.now tail n.0 n.1 is.1,
       gains_row c.args.tuples.now c.loop-row.tuples c.add_row.new.self c.args.step k rs n.0 (omega (arith, size, c.loop-row-test.true)) n.1.at inv.1
-      (same_events c.loop-row.tuples c.add_row.new.self (c.args.step + c.from.result) (c.args.step + k) c.as_slice.result.now (n.0).accesses (ap (λ x. c.args.step + x) c.from.ensures) (c.as_slice.ensures.value ∙ ap (λ (r : Row). r.accesses) is.0) c.in_ok-add_row.ensures),
+          (same_events c.loop-row.tuples c.add_row.new.self (c.args.step + c.from.result) (c.args.step + k) c.as_slice.result.now (n.0).accesses (ap (λ x. c.args.step + x) c.from.ensures) (c.as_slice.ensures.value ∙ ap (λ (r : Row). r.accesses) is.0) c.in_ok-add_row.ensures),
     )

@@ -17,9 +17,8 @@ loop-shard-preserved c = record {
       let e = c.in_ok-rest.ensures h k s (flat_map shard_bytes (drop (k + 1) ss) ++ tail) (c.rows_of-rows.ensures.value ∙ sym n.1.spelled.fits.rows) n.1.spelled in (
         e.0,
         behind_shard c.args.tuples.now c.loop-shard.tuples c.collect_shard.new.tuples c.loop-shard.step k c.from-step.result ss s n.1.at
-        (n.1.spelled.fits.count ∙ n.1.spelled.fits.rows ∙ sym c.rows_of-rows.ensures.value ∙ sym c.from-step.ensures)
-        inv.1
-        e.1,
+            (n.1.spelled.fits.count ∙ n.1.spelled.fits.rows ∙ sym c.rows_of-rows.ensures.value ∙ sym c.from-step.ensures)
+            inv.1
+            e.1,
       );
 }
-

@@ -1,7 +1,7 @@
 use Rattle.std.proofs.Common.{sym, ◌∙◌, arith}
 use Rattle.rv_rules.specs.Verdict.{judge}
 use Rattle.rv_rules.proofs.Lemmas.{bytes-are}
-use Rattle.rv_settle.proofs.Concluding.{accepted, refused, concluded, decided_of}
+use Rattle.rv_settle.proofs.Concluding.{accepted, concluded, decided_of}
 use Rattle.rv_settle.proofs.settling.settle_verdict.Goals as goal
 
 pub unreachable-requires : goal.unreachable-requires
