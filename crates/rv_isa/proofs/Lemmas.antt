@@ -22,3 +22,5 @@ pub use Rattle.rv_isa.proofs.Slots.{all-within}
 pub use Rattle.rv_isa.proofs.Slots.{slot-seen}
 -- the cells that a hart has used are the table of the run
 pub use Rattle.rv_isa.proofs.TableOfRun.{touched-table}
+-- such cells are known, so that a hart may go on from them
+pub use Rattle.rv_isa.proofs.TableOfRun.{table-known}

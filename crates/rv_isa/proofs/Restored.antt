@@ -1,22 +1,22 @@
 -- A list of cells that is set cell by cell, and the state that holds it.
-use Rattle.std.proofs.Common.{◌≡◌, ◌≢◌, ◌⊎◌, ℕ, zero, suc, ◌+◌, ◌-◌, ◌*◌, ◌/◌, ◌%◌, ◌^◌, ◌<◌, ◌≤◌, Bool, true, false, cond, ◌==◌, ◌&&◌, ◌||◌, nat_lt, List, [], ◌∷◌, ◌++◌, length, map, take, get_or, Option, Some, None, option_map, unwrap_or, refl, sym, ◌∙◌, ap, subst, inl, inr, arith, IsTrue}
+use Rattle.std.proofs.Common.{◌≡◌, ◌≢◌, ℕ, zero, suc, ◌+◌, ◌-◌, ◌*◌, ◌/◌, ◌%◌, ◌^◌, ◌<◌, ◌≤◌, Bool, true, false, cond, ◌==◌, ◌&&◌, ◌||◌, nat_lt, List, [], ◌∷◌, ◌++◌, length, map, take, get_or, Option, Some, None, option_map, unwrap_or, refl, sym, ◌∙◌, ap, subst, arith, IsTrue}
 use Rattle.std.specs.List.{AllByRecursion}
 use Rattle.std.specs.Option.{option_or}
-use Rattle.std.proofs.lemmas.Bool.{eq-eqb, ne_eqb, eqb-true, eqb-false, lt-ltb, le-ltb, ltb-true, ltb-false}
+use Rattle.std.proofs.lemmas.Bool.{eq-eqb, ne_eqb, eqb-true, eqb-false, ltb-true}
 use Rattle.std.proofs.lemmas.List.{take_more}
 use Rattle.std.proofs.lemmas.List.Folds.{find-append}
 use Rattle.rv_base.specs.declared.record.Place.{Place}
 use Rattle.rv_base.specs.declared.record.TableEntry.{TableEntry}
 use Rattle.rv_spec.specs.Elf.{Image}
 use Rattle.rv_spec.specs.Words.{word as word_of}
-use Rattle.rv_spec.specs.Step.{State, start, register, store_word, with_memory, with_register}
+use Rattle.rv_spec.specs.Step.{State, start, store_word, with_memory, with_register}
 use Rattle.rv_spec.specs.Cells.{is_cell, register_cell, reservation_cell, value, initial_value}
-use Rattle.rv_spec.specs.Visits.{use_register, use_of}
+use Rattle.rv_spec.specs.Visits.{use_of}
 use Rattle.rv_spec.specs.Grammar.{IsRising}
 use Rattle.rv_rules.specs.Agreement.{IsState, IsProgram}
 use Rattle.rv_mem.specs.Contents.{Contents, entry_at, value_at, time_at}
 use Rattle.rv_isa.specs.HartState.{HartState, StandsFor}
-use Rattle.rv_isa.specs.Resumed.{IsKnown, HoldsListed, with_cell, with_cells, resumed}
+use Rattle.rv_isa.specs.Resumed.{IsKnown, with_cell, with_cells, resumed}
 use Rattle.rv_isa.proofs.WordRanges.{IsWord}
 use Rattle.rv_isa.proofs.Registers.{value-register, register-with}
 use Rattle.rv_isa.proofs.Loads.{value-word}

@@ -1,5 +1,5 @@
 -- The cells that a hart has used are the table of the run.
-use Rattle.std.proofs.Common.{◌≡◌, ◌≢◌, ◌⊎◌, ℕ, zero, suc, ◌+◌, ◌^◌, ◌<◌, ◌≤◌, true, false, cond, ◌==◌, List, [], ◌∷◌, ◌++◌, length, map, get_or, refl, sym, ◌∙◌, ap, ap₂, subst, inl, inr, arith, IsTrue}
+use Rattle.std.proofs.Common.{◌≡◌, ◌≢◌, ◌⊎◌, ℕ, zero, suc, ◌+◌, ◌^◌, ◌<◌, ◌≤◌, cond, List, [], ◌∷◌, map, refl, sym, ◌∙◌, ap, ap₂, subst, inl, inr, arith, IsTrue}
 use Rattle.std.specs.List.{AllByRecursion, Contains}
 use Rattle.std.proofs.lemmas.Bool.{ne_eqb}
 use Rattle.rv_base.specs.declared.record.TableEntry.{TableEntry}
@@ -8,20 +8,19 @@ use Rattle.rv_spec.specs.Words.{AreBytes}
 use Rattle.rv_spec.specs.Elf.{Image}
 use Rattle.rv_spec.specs.Run.{run}
 use Rattle.rv_spec.specs.Cells.{is_cell, value, initial_value, time_of}
-use Rattle.rv_spec.specs.Visits.{Use, Visit, visit, visits, step_uses}
+use Rattle.rv_spec.specs.Visits.{Visit, visit, visits, step_uses}
 use Rattle.rv_spec.specs.Run.{next_state}
 use Rattle.rv_spec.specs.Trace.{history, last_use, left_at, last_entry, rising, table_of, table, tuples_left}
 use Rattle.rv_spec.specs.Grammar.{IsRising}
 use Rattle.rv_rules.specs.Agreement.{IsProgram}
 use Rattle.rv_rules.specs.Membership.{In}
-use Rattle.rv_rules.proofs.Lemmas.{all-in, in-append, in-map, in-map-back, in-rising, last_use-is, rising-in, rising-rises}
+use Rattle.rv_rules.proofs.Lemmas.{all-in, all-of, in-append, in-map, in-map-back, in-rising, last_use-is, rising-in, rising-rises}
 use Rattle.rv_mem.specs.Contents.{Contents, value_at, time_at, IsTable}
 use Rattle.rv_isa.specs.HartState.{HartState, StandsFor, IsTimed}
+use Rattle.rv_isa.specs.Resumed.{IsKnown}
 use Rattle.rv_isa.specs.Hart.{TouchedIsTable}
-use Rattle.rv_isa.specs.Ranges.{StepFits}
-use Rattle.rv_isa.proofs.Slots.{all-within}
 use Rattle.rv_isa.proofs.HartLaws.{cell-of}
-use Rattle.rv_isa.proofs.LastUses.{Holds, LeftBy, run-holds, holds-last-uses}
+use Rattle.rv_isa.proofs.LastUses.{LeftBy, run-holds, holds-last-uses}
 use Rattle.rv_isa.proofs.RunRanges.{runs-fit}
 
 -- ---- rising lists with the same members are equal
@@ -58,6 +57,10 @@ contains-in : (e : TableEntry) (es : List TableEntry) → Contains es e → In e
 contains-in e [] (k, h, is) = absurd (omega arith)
 contains-in e (x ∷ xs) (zero, h, is) = inl (sym is)
 contains-in e (x ∷ xs) (suc k, h, is) = inr (contains-in e xs (k, omega arith, is))
+
+-- a table is of known cells
+pub table-known : (m : Contents) (i : Image) (es : List TableEntry) → IsTable m es → AllByRecursion (IsKnown i) es
+table-known m i es is = all-of (IsKnown i) es (λ e there. (let set = is.set_only e (in-contains e es there) in record { cell = is.cells e (in-contains e es there); unused = λ none. absurd (let some : 0 < e.time = set.0 in omega arith) }))
 
 mapped : (f : ℕ → TableEntry) (es : List TableEntry) → ((e : TableEntry) → In e es → e ≡ f e.cell) → es ≡ map f (map (λ e. e.cell) es)
 mapped f [] each = refl

@@ -1,5 +1,5 @@
 -- What the calls of a hart give.
-use Rattle.std.specs.Prelude.{◌≡◌, ℕ, ◌+◌, ◌≤◌, List, ◌++◌, map, take, IsTrue}
+use Rattle.std.specs.Prelude.{◌≡◌, ℕ, ◌+◌, ◌≤◌, List, ◌++◌, map, take}
 use Rattle.std.specs.Int.{w32, to_le_bytes}
 use Rattle.rv_base.specs.declared.record.TableEntry.{TableEntry}
 use Rattle.rv_base.specs.declared.record.Tuple.{Tuple}
@@ -7,12 +7,11 @@ use Rattle.rv_spec.specs.Words.{AreBytes}
 use Rattle.rv_spec.specs.Elf.{Image}
 use Rattle.rv_spec.specs.Step.{State, step}
 use Rattle.rv_spec.specs.Run.{end_of, next_state, run}
-use Rattle.rv_spec.specs.Cells.{is_cell, initial_value}
 use Rattle.rv_spec.specs.Visits.{visits}
 use Rattle.rv_spec.specs.Trace.{Row, access, history, table, tuples_left}
 use Rattle.rv_rules.specs.Agreement.{IsProgram}
 use Rattle.rv_row.specs.RowReading.{row_view}
-use Rattle.rv_mem.specs.Contents.{value_at, time_at, IsTable}
+use Rattle.rv_mem.specs.Contents.{IsTable}
 use Rattle.rv_isa.specs.declared.hart.Stepped.{Stepped}
 use Rattle.rv_isa.specs.HartState.{HartState, StandsFor, IsTimed}
 

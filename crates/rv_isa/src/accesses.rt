@@ -16,6 +16,7 @@ pub(crate) struct Touches {
 }
 
 impl Touches {
+    /// The accesses of a step that has made none.
     pub fn new() -> Touches
         ensures items { result.list.items ≡ [] }
         ensures length { array_vec_len result.list ≡ 0 }
@@ -25,6 +26,7 @@ impl Touches {
         }
     }
 
+    /// An access in a slot, which leaves a new value in its cell.
     pub fn touch(&mut self, slot: u8, cell: u32, new: u32)
         requires { array_vec_len self.old.list < 8 }
         ensures items { self.new.list.items ≡ self.old.list.items ++ isa.touch slot cell new }

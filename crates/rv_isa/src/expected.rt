@@ -58,13 +58,6 @@ pub fn expect(version: u8, pc: u32, seen: &Seen, input: &[u8], at: u64) -> Expec
     }
 }
 
-/// What a step finds: the old value in each slot, and what the word in slot 1 is.
-#[derive(Clone, Copy, Debug)]
-pub(crate) struct Found {
-    pub seen: Seen,
-    pub decoded: Decoded,
-}
-
 /// Makes a step that has no access yet, whose word is decoded.
 pub(crate) fn make(step: &mut Step<'_, '_>, decoded: Decoded) -> Outcome
     requires begins { array_vec_len step.old.touches.list ≡ 0 }

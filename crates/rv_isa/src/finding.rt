@@ -17,12 +17,18 @@ ghost use Rattle.rv_isa.specs.Sees.{Sees};
 use crate::abi::{A1, A2};
 use crate::accesses::operand;
 use crate::decoded::Decoded;
-use crate::expected::Found;
 use crate::operands::{Address, Operands};
 use crate::step::offset;
 use rv_base::Seen;
 use rv_base::cells::{REGISTER_CELLS, RESERVATION_CELL};
 use rv_mem::Memory;
+
+/// What a step finds: the old value in each slot, and what the word in slot 1 is.
+#[derive(Clone, Copy, Debug)]
+pub(crate) struct Found {
+    pub seen: Seen,
+    pub decoded: Decoded,
+}
 
 /// What the step at `pc` finds. Its word is decoded once.
 pub(crate) fn find(cells: &Memory<'_>, pc: u32) -> Found
@@ -79,6 +85,7 @@ fn byte_address(cells: &Memory<'_>, address: Address) -> u32
     offset(base, address.offset)
 }
 
+/// What a register holds, or 0 for x0.
 fn register(cells: &Memory<'_>, register: u8) -> u32
     ensures { result ≡ value_at cells.now (REGISTER_CELLS + register) }
 {

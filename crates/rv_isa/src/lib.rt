@@ -1,4 +1,5 @@
-//! The machine of RV32IM and RV32IMA, and the step that a row of a record has to show.
+//! The machine of RV32IM and RV32IMA: one step over cells with times, runs of it, and the step that a row of a
+//! record has to show.
 #![tactic(auto)]
 
 mod abi;

@@ -27,12 +27,7 @@ pub(crate) fn restore(memory: &mut Memory<'_>, entries: &[TableEntry]) -> Result
 }
 
 /// Sets a cell that no step has used. With time 0 it holds the value already.
-fn restore_cell(
-    memory: &mut Memory<'_>,
-    cell: u32,
-    value: u32,
-    time: u64,
-) -> Result<(), NoMemory>
+fn restore_cell(memory: &mut Memory<'_>, cell: u32, value: u32, time: u64) -> Result<(), NoMemory>
     requires cell { IsTrue (is_cell 2 cell) }
     requires unused { time_at memory.old cell ≡ 0 }
     requires held { time ≡ 0 → value ≡ value_at memory.old cell }

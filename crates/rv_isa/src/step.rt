@@ -34,6 +34,7 @@ pub(crate) struct Outcome {
 }
 
 impl Outcome {
+    /// The run goes on at an address, and the step takes and puts no bytes.
     pub fn goes_to(next: u32) -> Outcome
         ensures { result ≡ record { next = next; end = None; took = 0; put = 0; word = 0 } }
     {

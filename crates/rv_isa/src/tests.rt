@@ -61,12 +61,47 @@ const CONDITIONAL: Seen = Seen {
 /// A version and old values, with the number of accesses, the slot, the cell and the new value of the last one,
 /// the next instruction, and the kind of the end.
 const STEPS: [(u8, Seen, usize, (u8, u32, u32), u32, Option<u8>); 6] = [
-    (1, ADD, 4, (RD_SLOT, REGISTER_CELLS + 2, 0xFFFF_E000), PC + 4, None),
-    (1, JUMP, 1, (FETCH_SLOT, 0x4000, 0x0020_00E7), PC, Some(MISALIGNED_JUMP)),
-    (1, LOAD, 2, (RS1_SLOT, REGISTER_CELLS + 5, 0x10000), PC, Some(MISALIGNED_LOAD)),
+    (
+        1,
+        ADD,
+        4,
+        (RD_SLOT, REGISTER_CELLS + 2, 0xFFFF_E000),
+        PC + 4,
+        None,
+    ),
+    (
+        1,
+        JUMP,
+        1,
+        (FETCH_SLOT, 0x4000, 0x0020_00E7),
+        PC,
+        Some(MISALIGNED_JUMP),
+    ),
+    (
+        1,
+        LOAD,
+        2,
+        (RS1_SLOT, REGISTER_CELLS + 5, 0x10000),
+        PC,
+        Some(MISALIGNED_LOAD),
+    ),
     (1, STORE, 4, (MEMORY_SLOT, 0x4001, 0), PC + 4, None),
-    (2, CONDITIONAL, 6, (RESERVATION_SLOT, RESERVATION_CELL, 0), PC + 4, None),
-    (1, CONDITIONAL, 1, (FETCH_SLOT, 0x4000, 0x1862_A3AF), PC, Some(ILLEGAL_WORD)),
+    (
+        2,
+        CONDITIONAL,
+        6,
+        (RESERVATION_SLOT, RESERVATION_CELL, 0),
+        PC + 4,
+        None,
+    ),
+    (
+        1,
+        CONDITIONAL,
+        1,
+        (FETCH_SLOT, 0x4000, 0x1862_A3AF),
+        PC,
+        Some(ILLEGAL_WORD),
+    ),
 ];
 
 fn access((slot, cell, new): (u8, u32, u32)) -> Touch {

@@ -2,7 +2,7 @@
 
 ghost use Rattle.std.specs.Prelude.{◌≤◌, length, IfOk};
 
-use super::machine::{file_of, EXITS, OVERWRITE};
+use super::machine::{EXITS, OVERWRITE, file_of};
 use crate::hart::{Hart, Stepped};
 use rv_base::machine::{EXIT, ILLEGAL_WORD};
 use rv_base::{Access, End, Place, TableEntry};
@@ -59,7 +59,13 @@ fn rows_have_times(rt: HostRuntime) -> Result<(), Fail> {
     assert!(rt; first.end.is_none());
     let second = hart.step(1)?;
     assert!(rt; is_row(&second, 0x10004, 0x10004, &[(1, 0x4001, 0, 0, 0)]));
-    assert!(rt; second.end == Some(End { kind: ILLEGAL_WORD, code: 0 }));
+    assert!(rt;
+        second.end
+            == Some(End {
+                kind: ILLEGAL_WORD,
+                code: 0
+            })
+    );
     Ok(())
 }
 
@@ -84,11 +90,21 @@ fn a_run_is_taken_up_from_its_cells(rt: HostRuntime) -> Result<(), Fail> {
     let mut hart = Hart::start(rt.alloc(), &image, &[]);
     hart.step(0)?;
     hart.step(1)?;
-    let place = Place { pc: hart.pc(), input: hart.position(), output: 0 };
+    let place = Place {
+        pc: hart.pc(),
+        input: hart.position(),
+        output: 0,
+    };
     let cells = hart.touched()?;
     let mut later = Hart::resume(rt.alloc(), &image, &[], place, cells.as_slice())?;
     let exit = later.step(2)?;
-    assert!(rt; exit.end == Some(End { kind: EXIT, code: 42 }));
+    assert!(rt;
+        exit.end
+            == Some(End {
+                kind: EXIT,
+                code: 42
+            })
+    );
     let table = later.touched()?;
     let expected = LAST.map(|(cell, value, time)| TableEntry { cell, value, time });
     assert_eq!(rt; table.as_slice(), expected.as_slice());

@@ -1,4 +1,4 @@
-use Rattle.std.proofs.Common.{◌≡◌, ◌^◌, ◌<◌, List, [], ◌∷◌, refl, ◌∙◌, ap, subst, arith}
+use Rattle.std.proofs.Common.{◌^◌, ◌<◌, List, [], ◌∷◌, refl, ◌∙◌, ap, arith}
 use Rattle.std.specs.List.{AllByRecursion}
 use Rattle.rv_base.specs.declared.record.TableEntry.{TableEntry}
 use Rattle.rv_spec.specs.Elf.{Image}
