@@ -1,1 +1,2 @@
 mod StartExample
+mod PieceLaws

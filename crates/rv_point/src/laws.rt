@@ -1,0 +1,11 @@
+//! Laws of runs in shards. They compute nothing: each contract is a law.
+
+ghost use Rattle.rv_point.specs.Start.{PiecesAreShards, RecordIsPieces};
+
+/// In a run that ends, each shard of its record is there, and the piece of a shard has that shard's
+/// bytes and digests and the place after it. The record is its header, the run's output, the bytes of
+/// the pieces in order, and the table.
+pub fn pieces()
+    ensures shards { PiecesAreShards }
+    ensures file { RecordIsPieces }
+{}
