@@ -1,2 +1,4 @@
 mod StartExample
 mod PieceLaws
+mod SharedSteps
+mod LatestUse

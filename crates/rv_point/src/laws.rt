@@ -1,5 +1,6 @@
 //! Laws of runs in shards. They compute nothing: each contract is a law.
 
+ghost use Rattle.rv_point.specs.SameSteps.{SharedStepsAreSame};
 ghost use Rattle.rv_point.specs.Start.{PiecesAreShards, RecordIsPieces};
 
 /// In a run that ends, each shard of its record is there, and the piece of a shard has that shard's
@@ -8,4 +9,10 @@ ghost use Rattle.rv_point.specs.Start.{PiecesAreShards, RecordIsPieces};
 pub fn pieces()
     ensures shards { PiecesAreShards }
     ensures file { RecordIsPieces }
+{}
+
+/// Two states that have one version, counter and position, and equal values in the cells that the step
+/// of one of them uses, make the same step.
+pub fn shared_steps()
+    ensures { SharedStepsAreSame }
 {}
