@@ -2,3 +2,4 @@ mod StartExample
 mod PieceLaws
 mod SharedSteps
 mod LatestUse
+mod FirstUses
