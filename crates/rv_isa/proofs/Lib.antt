@@ -29,4 +29,5 @@ mod ExpectedShape
 mod TurnRanges
 mod UsesAreCells
 mod RunRanges
+mod HartLaws
 pub mod Lemmas

@@ -10,3 +10,6 @@ pub mod MachineView
 pub mod Follows
 pub mod Shape
 pub mod Ranges
+pub mod HartState
+pub mod HartView
+pub mod Hart

@@ -8,6 +8,7 @@ mod cells;
 mod decoded;
 mod environment;
 mod expected;
+mod hart;
 mod instructions;
 pub mod laws;
 mod machine;
@@ -17,5 +18,6 @@ mod step;
 mod tests;
 
 pub use expected::{Expected, expect};
+pub use hart::{Hart, Stepped};
 pub use machine::{Machine, Ran, RunStop, Turn};
 pub use rv_base::{Seen, Touch};

@@ -2,6 +2,7 @@
 
 ghost use Rattle.std.specs.Prelude.{◌≡◌, ◌<◌, [], IsTrue, IfOk, OnOk, OnErr};
 ghost use Rattle.rv_spec.specs.Cells.{is_cell};
+ghost use Rattle.rv_rules.specs.Agreement.{IsProgram};
 ghost use Rattle.rv_mem.specs.Contents.{value_at, time_at, IsSet, IsTable};
 
 use crate::page::list_used;
@@ -37,10 +38,11 @@ impl<'a> Model for Memory<'a> {
 
 impl<'a> Memory<'a> {
     /// The cells before the first step, at time 0: the words of the image, x2 with the top of the stack, and 0 in
-    /// each other register and in the reservation.
+    /// each other register and in the reservation. What an image loads is a program.
     pub fn new(alloc: Global, image: &Image<'a>) -> Memory<'a>
         ensures image { result.image ≡ image.now }
         ensures touched { result.touched ≡ [] }
+        ensures program { IsProgram image.now }
     {
         let mut registers = [Word { value: 0, time: 0 }; 33];
         registers[2] = Word {
