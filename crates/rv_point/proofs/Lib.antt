@@ -3,3 +3,6 @@ mod PieceLaws
 mod SharedSteps
 mod LatestUse
 mod FirstUses
+mod Kept
+mod LeftTuples
+mod Frame
