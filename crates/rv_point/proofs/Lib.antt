@@ -6,3 +6,5 @@ mod FirstUses
 mod Kept
 mod LeftTuples
 mod Frame
+mod RunFirsts
+mod SortedEntries
