@@ -8,3 +8,4 @@ mod LeftTuples
 mod Frame
 mod RunFirsts
 mod SortedEntries
+mod CourseLaws

@@ -18,6 +18,7 @@ use Rattle.rv_rules.proofs.Lemmas.{in-append, in-left, in-right, in-map, in-map-
 use Rattle.rv_isa.specs.Ranges.{Rises}
 use Rattle.rv_isa.proofs.Lemmas.{step-slots-rise, all-within}
 use Rattle.rv_point.specs.Start.{cell_at}
+use Rattle.rv_point.specs.Course.{entry_of, first_finds, all_first_finds}
 use Rattle.rv_point.proofs.Kept.{Spares, next-keeps}
 use Rattle.rv_point.proofs.LatestUse.{last_use-cut}
 use Rattle.rv_point.proofs.FirstUses.{Unused, Link, Linked, linked-append, firsts, found_by, is_first, AreFirsts, firsts-are}
@@ -45,16 +46,6 @@ written-row h k [] = refl
 written-row h k (v ∷ vs) = λ j. left_of k v ∷ written-row h k vs j
 
 -- ---- the entries of rows
-
-abbrev pub entry_of : Access → TableEntry
-entry_of a = record { cell = a.cell; value = a.old; time = a.prev }
-
--- what the first accesses of their cells find, where none was used after a time before a row
-abbrev pub first_finds : ℕ → List Access → List TableEntry
-first_finds t accesses = map entry_of (filter (λ a. nat_le a.prev t) accesses)
-
-abbrev pub all_first_finds : ℕ → List Row → List TableEntry
-all_first_finds t rs = flat_map (λ r. first_finds t r.accesses) rs
 
 firsts-row : (t k : ℕ) (accesses : List Access) → firsts t (map (event k) accesses) ≡ first_finds t accesses
 firsts-row t k [] = refl

@@ -7,6 +7,7 @@ use Rattle.rv_base.specs.declared.record.End.{End}
 use Rattle.rv_base.specs.declared.record.Place.{Place}
 use Rattle.rv_base.specs.declared.record.Refusal.{Refusal}
 use Rattle.rv_base.specs.declared.record.TableEntry.{TableEntry}
+use Rattle.rv_point.specs.declared.start.ShardStart.{ShardStart}
 use Rattle.rv_spec.specs.Elf.{Image, image}
 use Rattle.rv_spec.specs.Run.{run, end_at, GoesOn, EndsIn}
 use Rattle.rv_spec.specs.Cells.{value, time_of}
@@ -26,14 +27,6 @@ steps_from i input k (suc n) = one_more (end_at i input k) (steps_from i input (
 -- a run has shard j where no step of the shards before it ends it
 abbrev pub HasShard : Image → List ℕ → ℕ → ℕ → Type 0
 HasShard i input size j = GoesOn i input (j * size)
-
--- A shard before its first row: its number, its rows, its first step, the place, and each cell that it uses, rising, with its value and the time of its last use, or 0.
-pub record ShardStart : Type 0 where
-  pub index : ℕ
-  pub rows : ℕ
-  pub step : ℕ
-  pub place : Place
-  pub cells : List TableEntry
 
 -- the cells that some rows use, rising
 abbrev pub cells_of : List Row → List ℕ
