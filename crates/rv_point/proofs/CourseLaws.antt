@@ -20,7 +20,7 @@ use Rattle.rv_isa.specs.HartState.{HartState, StandsFor, IsTimed}
 use Rattle.rv_isa.specs.Hart.{TakesStepFrom, TakesTimes}
 use Rattle.rv_point.specs.declared.course.Course.{Course}
 use Rattle.rv_point.specs.Start.{one_more, steps_from}
-use Rattle.rv_point.specs.Course.{IsAfter, IsAt, IsSameRun, TakesRow, TakesRows, first_finds, all_first_finds}
+use Rattle.rv_point.specs.Course.{IsAfter, IsAt, IsSameRun, TakesRow, TakesRows, SkipsSteps, first_finds, all_first_finds}
 
 -- `suc` is how runs count, and `+ 1` how code does
 next-number : (k : ℕ) → suc k ≡ k + 1
@@ -205,3 +205,17 @@ some-of (Some e) h = (e, refl)
 pub none-of : {A : Type 0} (o : Option A) → false ≡ is_some o → o ≡ None
 none-of None h = refl
 none-of (Some e) h = absurd cc
+
+-- ---- steps that are skipped
+
+abbrev pub HasSkipped : Course → Course → ℕ → Type 0
+HasSkipped start now n = HasTaken start now n [] (all_first_finds (time_of start.steps 0) (rows start.hart.cells.image start.hart.input start.steps n))
+
+pub skipped-more : (start old new : Course) (n : ℕ) (r : Row) → HasSkipped start old n → TakesRow old new r → HasSkipped start new (n + 1)
+skipped-more start old new n r h t =
+    let finds : List TableEntry = all_first_finds (time_of start.steps 0) (rows start.hart.cells.image start.hart.input start.steps n) in
+    let more = taken-more start old new n [] finds r h t in
+    record { same = more.same; at = more.at; steps = more.steps; found = refl }
+
+pub skipped-some : (start now : Course) (n most : ℕ) → HasSkipped start now n → n ≤ most → (now.ended ≡ None → n ≡ most) → SkipsSteps start now most
+skipped-some start now n most h less whole = record { same = h.same; at = h.at; within = omega (arith, h.steps); whole = λ none. omega (arith, h.steps, whole none) }

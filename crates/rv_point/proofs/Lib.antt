@@ -9,3 +9,5 @@ mod Frame
 mod RunFirsts
 mod SortedEntries
 mod CourseLaws
+mod Collected
+mod StartLaws

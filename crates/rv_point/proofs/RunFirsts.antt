@@ -94,16 +94,16 @@ module _ (i : Image) (input : List ℕ) where
   -- ---- the accesses of the rows from row k on
 
   module _ (k : ℕ) where
-    abbrev hist : List Tuple
+    abbrev pub hist : List Tuple
     hist = history i input k
 
-    abbrev start : ℕ
+    abbrev pub start : ℕ
     start = time_of k 0
 
-    abbrev before : ℕ → ℕ
+    abbrev pub before : ℕ → ℕ
     before c = value (run i input k) c
 
-    abbrev early : (w : Tuple) → In w hist → w.time < start
+    abbrev pub early : (w : Tuple) → In w hist → w.time < start
     early w m = history-early i input k w m
 
     abbrev Chained : List Tuple → List Event → Type 0

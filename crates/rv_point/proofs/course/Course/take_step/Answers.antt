@@ -5,8 +5,8 @@ use Rattle.rv_spec.specs.Trace.{history}
 use Rattle.rv_point.proofs.CourseLaws.{row-taken}
 use Rattle.rv_point.proofs.course.Course.take_step.Goals as goal
 
-pub returns : goal.returns
-returns c =
+pub returns-clause-ok : goal.returns-clause-ok
+returns-clause-ok c =
     let old = c.args.self.now in
     let m = c.in_ok-taken.taken in
     let s = run old.hart.cells.image old.hart.input old.steps in
