@@ -18,16 +18,16 @@ mod Frame
 mod LastUses
 pub mod Made
 pub mod Fetched
-mod CellLaws
 pub mod Covered
 mod Seeing
 mod Placed
 mod Stepping
-mod MachineLaws
+mod LeftUses
 mod ExpectedCovers
 mod ExpectedShape
 mod TurnRanges
 mod UsesAreCells
 mod RunRanges
 mod HartLaws
+mod MachineLaws
 pub mod Lemmas

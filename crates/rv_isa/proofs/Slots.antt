@@ -21,7 +21,7 @@ from-lower : (lo mid hi : ℕ) (us : List Use) → lo ≤ mid → Rises mid hi u
 from-lower lo mid hi [] h r = omega arith
 from-lower lo mid hi (u ∷ us) h r = (omega (arith, r.0), r.1)
 
-joined : (lo mid hi : ℕ) (us vs : List Use) → Rises lo mid us → Rises mid hi vs → Rises lo hi (us ++ vs)
+pub joined : (lo mid hi : ℕ) (us vs : List Use) → Rises lo mid us → Rises mid hi vs → Rises lo hi (us ++ vs)
 joined lo mid hi [] vs h r = from-lower lo mid hi vs h r
 joined lo mid hi (u ∷ us) vs h r = (h.0, joined (u.slot + 1) mid hi us vs h.1 r)
 

@@ -16,12 +16,16 @@ pub record HartState : Type 0 where
   pub pc : ℕ
   pub position : ℕ
 
+-- the cells hold what a state holds
+abbrev pub CellsRepresent : Contents → State → Type 0
+CellsRepresent m s = (c : ℕ) → IsTrue (is_cell 2 c) → value_at m c ≡ value s c
+
 -- The hart stands for a state: it keeps what the state has but for the output, and in each cell what the state holds there.
 pub record StandsFor (h : HartState) (s : State) : Type 0 where
   pub version : h.cells.image.version ≡ s.version
   pub pc : h.pc ≡ s.pc
   pub position : h.position ≡ s.position
-  pub cells : (c : ℕ) → IsTrue (is_cell 2 c) → value_at h.cells c ≡ value s c
+  pub cells : CellsRepresent h.cells s
   pub ranges : IsState s
   pub within : s.position ≤ length h.input
 

@@ -1,7 +1,6 @@
 pub mod Represented
 pub mod MachineState
 pub mod Decoded
-pub mod Cells
 pub mod Fields
 pub mod Operands
 pub mod Sees
@@ -13,3 +12,5 @@ pub mod Ranges
 pub mod HartState
 pub mod HartView
 pub mod Hart
+pub mod Accesses
+pub mod Look

@@ -1,30 +1,23 @@
 -- The machine, and the states that it stands for.
-use Rattle.std.specs.Prelude.{◌≡◌, ℕ, ◌≤◌, List, length, Some, None, IsTrue}
-use Rattle.rv_spec.specs.Words.{AreBytes}
+use Rattle.std.specs.Prelude.{◌≡◌, ℕ, ◌≤◌, List, Some, None}
 use Rattle.rv_spec.specs.Elf.{Image}
 use Rattle.rv_spec.specs.Step as spec
 use Rattle.rv_spec.specs.Step.{State, start}
 use Rattle.rv_spec.specs.Run.{run, EndsIn}
-use Rattle.rv_spec.specs.Cells.{is_cell, value}
-use Rattle.rv_rules.specs.Agreement.{IsState}
 use Rattle.rv_isa.specs.declared.machine.Turn.{Turn}
 use Rattle.rv_isa.specs.declared.machine.Turn.TheVariants.{Next, Ends}
 use Rattle.rv_isa.specs.declared.machine.Ran.{Ran}
-use Rattle.rv_isa.specs.MachineState.{MachineState, machine_value}
+use Rattle.rv_isa.specs.HartState.{StandsFor}
+use Rattle.rv_isa.specs.MachineState.{MachineState}
 
--- The machine stands for a state: it keeps what the state has, and in each cell what the state holds there.
+-- The machine stands for a state: its hart does, and it has the state's output.
 pub record Represents (m : MachineState) (s : State) : Type 0 where
-  pub version : m.image.version ≡ s.version
-  pub pc : m.pc ≡ s.pc
-  pub position : m.position ≡ s.position
+  pub hart : StandsFor m.hart s
   pub output : m.output ≡ s.output
-  pub cells : (c : ℕ) → IsTrue (is_cell 2 c) → machine_value m c ≡ value s c
-  pub ranges : IsState s
-  pub within : s.position ≤ length m.input
 
 -- a machine that has taken no step: it has not ended, and stands for the state before the first one
 abbrev pub IsFresh : MachineState → Type 0
-IsFresh m = (m.ended ≡ None) × Represents m (start m.image)
+IsFresh m = (m.ended ≡ None) × Represents m (start m.hart.cells.image)
 
 -- A turn is that of the definition. The machine stands for the state that it leads to, or stays at the state whose step ends the run.
 abbrev pub TakesStep : spec.Transition → State → Turn → MachineState → Type 0
@@ -37,8 +30,3 @@ pub record IsRunOf (i : Image) (input : List ℕ) (budget : ℕ) (r : Ran) : Typ
   pub within : r.steps ≤ budget
   pub consumed : r.consumed ≡ (run i input r.steps).position
   pub output : r.output ≡ (run i input r.steps).output
-
--- what is true of every machine: its input is bytes, and it stands for some state
-pub record RepresentsSomeState (m : MachineState) : Type 0 where
-  pub bytes : AreBytes m.input
-  pub stands : ∥ ((s : State) × Represents m s) ∥₁

@@ -1,14 +1,22 @@
 //! One step over cells with times: what the machine, the walk over a run and the replay of a shard share.
 
-ghost use Rattle.std.specs.Prelude.{[], ℕ, List, ◌≡◌, ◌%◌, ◌^◌, ◌<◌, ◌≤◌, length, map, OnErr, IfOk};
+ghost use Rattle.std.specs.Prelude.{[], ℕ, List, ◌≡◌, ◌+◌, ◌%◌, ◌^◌, ◌<◌, ◌≤◌, length, map, OnOk, OnErr, IfOk};
 ghost use Rattle.std.specs.List.{AllByRecursion};
 ghost use Rattle.rv_base.specs.declared.record.Tuple.{Tuple as TupleOf};
 ghost use Rattle.rv_spec.specs.Step.{State, start};
+ghost use Rattle.rv_spec.specs.Run.{next_state};
 ghost use Rattle.rv_spec.specs.Grammar.{IsRising};
 ghost use Rattle.rv_mem.specs.Contents.{IsTable};
 ghost use Rattle.rv_isa.specs.HartState.{StandsFor, IsTimed};
-ghost use Rattle.rv_isa.specs.Hart.{IsKnown, HoldsListed, TakesStepFrom, TakesTimes};
+ghost use Rattle.rv_isa.specs.Hart.{IsKnown, HoldsListed, TakesStepFrom, TakesTimes, left_after, row_from};
+ghost use Rattle.rv_isa.specs.Look.{TellsStep};
+ghost use Rattle.rv_row.specs.RowReading.{row_view};
 
+use crate::accesses::Touches;
+use crate::expected::make;
+use crate::finding::find;
+use crate::look::{Look, row_accesses};
+use crate::step::Step;
 use rv_base::{End, NoMemory, Place, TableEntry};
 use rv_elf::Image;
 use rv_mem::Memory;
@@ -116,7 +124,16 @@ impl<'a> Hart<'a> {
         ensures times { (s : State) (before : List TupleOf) → StandsFor self.old s → IsTimed self.old before number → IfOk result (λ m. TakesTimes self.old.input s before number m self.new) }
         ensures err { OnErr result (self.new ≡ self.old) }
     {
-        Err(NoMemory)
+        let look = self.look();
+        let row = self.row(number, &look);
+        self.carry_out(number, &look)?;
+        Ok(Stepped {
+            row,
+            end: look.outcome.end,
+            took: look.outcome.took,
+            put: look.outcome.put,
+            word: look.outcome.word,
+        })
     }
 
     /// The cells that were used, by rising number, with their values and the times of their last uses.
@@ -124,5 +141,55 @@ impl<'a> Hart<'a> {
         ensures { IfOk result (λ entries. IsTable self.now.cells entries.items) }
     {
         self.cells.touched()
+    }
+
+    /// Looks at the next step.
+    pub(crate) fn look(&self) -> Look
+        ensures tells { (s : State) → StandsFor self.now s → TellsStep self.now.input s result }
+        ensures most { result.outcome.put ≤ 4 }
+    {
+        let found = find(&self.cells, self.pc);
+        let seen = found.seen;
+        let mut step = Step {
+            pc: self.pc,
+            seen: &seen,
+            input: self.input,
+            at: self.position,
+            touches: Touches::new(),
+        };
+        let outcome = make(&mut step, found.decoded);
+        Look {
+            touches: step.touches,
+            outcome,
+        }
+    }
+
+    /// The row of the next step, which was looked at.
+    fn row(&self, number: u64, look: &Look) -> Row
+        requires number { number < 2 ^ 32 }
+        requires tells { (s : State) → StandsFor self.now s → TellsStep self.now.input s look.now }
+        ensures { (s : State) (before : List TupleOf) → StandsFor self.now s → IsTimed self.now before number → row_view result ≡ row_from self.now.input s before number }
+    {
+        Row {
+            pc: self.pc,
+            next: look.outcome.next,
+            accesses: row_accesses(&self.cells, number, look.touches.list.as_slice()),
+        }
+    }
+
+    /// Takes the step that was looked at. Without memory nothing changes.
+    pub(crate) fn carry_out(&mut self, number: u64, look: &Look) -> Result<(), NoMemory>
+        requires number { number < 2 ^ 32 }
+        requires tells { (s : State) → StandsFor self.old s → TellsStep self.old.input s look.now }
+        ensures image { self.new.cells.image ≡ self.old.cells.image }
+        ensures input { self.new.input ≡ self.old.input }
+        ensures ok { (s : State) → StandsFor self.old s → OnOk result (StandsFor self.new (next_state self.old.input s)) }
+        ensures times { (s : State) (before : List TupleOf) → StandsFor self.old s → IsTimed self.old before number → OnOk result (IsTimed self.new (left_after self.old.input s before number) (number + 1)) }
+        ensures err { OnErr result (self.new ≡ self.old) }
+    {
+        self.cells.leave(number, look.touches.list.as_slice())?;
+        self.pc = look.outcome.next;
+        self.position += u64::from(look.outcome.took);
+        Ok(())
     }
 }

@@ -4,13 +4,14 @@
 mod abi;
 mod accesses;
 mod atomic;
-mod cells;
 mod decoded;
 mod environment;
 mod expected;
+mod finding;
 mod hart;
 mod instructions;
 pub mod laws;
+mod look;
 mod machine;
 mod operands;
 mod step;

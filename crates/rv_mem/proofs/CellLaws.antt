@@ -94,7 +94,7 @@ value-kept m r c begun h =
     ap (λ o. unwrap_or (option_map (λ (e : TableEntry). e.value) o) (initial_value m.image c)) (found (stored_cell m r) 0 1073741857 c (omega arith) (omega arith))
     ∙ value-found c (stored_cell m r c) (initial_value m.image c) (begun.unused c h)
 
-time-beyond : (m : Words) (r : List Word) (c : ℕ) → 1073741857 ≤ c → time_at (contents m r) c ≡ 0
+pub time-beyond : (m : Words) (r : List Word) (c : ℕ) → 1073741857 ≤ c → time_at (contents m r) c ≡ 0
 unfolding time_at
 time-beyond m r c h = ap (λ o. unwrap_or (option_map (λ (e : TableEntry). e.time) o) 0) (found-beyond (stored_cell m r) 0 1073741857 c (omega arith))
 
@@ -290,6 +290,12 @@ initial-register i r =
         ∙ ap (λ j. get_or (start i).registers j 0) (let j : suc (suc (suc k)) - 1 ≡ suc (suc k) = omega arith in j)
         ∙ zeros 0 29 k
         ∙ ap (λ b. cond b 0x7FFFF000 0) (sym (ne_eqb (suc (suc (suc k))) 2 (λ e. absurd (omega arith))))
+
+-- beyond the cells there is nothing
+pub nothing-beyond : (m : Words) (r : List Word) (c : ℕ) → 1073741857 ≤ c → 0 ≡ value_at (contents m r) c
+nothing-beyond m r c h =
+    sym (value-beyond m r c h ∙ ap (initial_value m.image) (let k : c ≡ 2 ^ 30 + (c - 2 ^ 30) = omega arith in k) ∙ initial-register m.image (c - 2 ^ 30)
+    ∙ ap (λ b. cond b 0x7FFFF000 0) (ne_eqb (c - 2 ^ 30) 2 (λ e. absurd (omega arith))))
 
 first-cell : (m : Words) → ((w : ℕ) → stored_word m w ≡ first_word m.image w) → (c : ℕ) → stored_cell m first_registers c ≡ first_word m.image c
 first-cell m begun c = by (low_or_high c (2 ^ 30))

@@ -3,3 +3,4 @@ pub mod Directory
 pub mod StoredCells
 pub mod Used
 pub mod Words
+pub mod Left

@@ -1,15 +1,17 @@
 //! The memory, the registers and the reservation of a run.
 
-ghost use Rattle.std.specs.Prelude.{◌≡◌, ◌<◌, [], IsTrue, IfOk, OnOk, OnErr};
+ghost use Rattle.std.specs.Prelude.{◌≡◌, ◌<◌, ◌^◌, [], IsTrue, IfOk, OnOk, OnErr};
+ghost use Rattle.std.specs.List.{AllByRecursion};
 ghost use Rattle.rv_spec.specs.Cells.{is_cell};
 ghost use Rattle.rv_rules.specs.Agreement.{IsProgram};
 ghost use Rattle.rv_mem.specs.Contents.{value_at, time_at, IsSet, IsTable};
+ghost use Rattle.rv_mem.specs.Left.{IsLeft};
 
 use crate::page::list_used;
 use crate::word::Word;
 use crate::words::Words;
 use rv_base::cells::{REGISTER_CELLS, STACK_TOP};
-use rv_base::{NoMemory, TableEntry};
+use rv_base::{NoMemory, TableEntry, Touch};
 use rv_elf::Image;
 use std::alloc::Global;
 use std::marker::Model;
@@ -55,9 +57,15 @@ impl<'a> Memory<'a> {
         }
     }
 
-    /// The value of a cell, and the time at which it was set, or 0.
+    /// The version of the instructions that the program may use: 1 for RV32IM, 2 for RV32IMA.
+    pub fn version(&self) -> u8
+        ensures { result ≡ self.now.image.version }
+    {
+        self.words.version()
+    }
+
+    /// The value of a cell, and the time of its last use, or 0. A number that is no cell's has 0 and 0.
     pub fn get(&self, cell: u32) -> (u32, u64)
-        requires { IsTrue (is_cell 2 cell) }
         ensures value { result.0 ≡ value_at self.now cell }
         ensures time { result.1 ≡ time_at self.now cell }
     {
@@ -65,8 +73,10 @@ impl<'a> Memory<'a> {
             let word = self.words.get(cell);
             return (word.value, word.time);
         }
-        let word = self.registers[(cell - REGISTER_CELLS) as usize];
-        (word.value, word.time)
+        match self.registers.get((cell - REGISTER_CELLS) as usize) {
+            Some(word) => (word.value, word.time),
+            None => (0, 0),
+        }
     }
 
     /// Gives a cell a value and a time. Without memory for its page no cell changes.
@@ -83,6 +93,18 @@ impl<'a> Memory<'a> {
         }
         self.registers[(cell - REGISTER_CELLS) as usize] = word;
         Ok(())
+    }
+
+    /// Leaves the uses of a step in the cells: each cell that is touched gets the value and the time of its last
+    /// touch. Without memory for their pages no cell changes.
+    pub fn leave(&mut self, step: u64, touches: &[Touch]) -> Result<(), NoMemory>
+        requires step { step < 2 ^ 32 }
+        requires cells { AllByRecursion (λ t. IsTrue (is_cell 2 t.cell)) touches.now }
+        requires slots { AllByRecursion (λ t. 0 < t.slot) touches.now }
+        ensures ok { OnOk result (IsLeft self.old self.new step touches.now) }
+        ensures err { OnErr result (self.new ≡ self.old) }
+    {
+        Err(NoMemory)
     }
 
     /// The cells that were set, by rising number, with their values and times.

@@ -37,6 +37,13 @@ impl<'a> Words<'a> {
         }
     }
 
+    /// The version of the image.
+    pub fn version(&self) -> u8
+        ensures { result ≡ self.now.image.version }
+    {
+        self.image.version()
+    }
+
     /// Word `w` of memory.
     pub fn get(&self, w: u32) -> Word
         requires { w < REGISTER_CELLS }

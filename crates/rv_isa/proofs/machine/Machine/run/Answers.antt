@@ -13,8 +13,8 @@ loop-done-init c = record { image = refl; input = refl; going = c.requires.fresh
 pub loop-done-preserved : goal.loop-done-preserved
 loop-done-preserved c =
     let l = c.loop-done.invariant in
-    let i = c.args.self.image in
-    let input = c.args.self.input in
+    let i = c.args.self.hart.cells.image in
+    let input = c.args.self.hart.input in
     let s = run i input c.loop-done.done in
     let takes = subst (λ bytes. TakesStep (step bytes s) s c.in-Ok-Next.field-0 c.step.new.self) l.input (c.in-Ok-Next.ensures.ok s l.shows l.going) in
     let next = next-of i input c.loop-done.done c.in-Ok-Next.field-0 c.step.new.self takes c.in-Ok-Next.field-0-is in
@@ -29,8 +29,8 @@ loop-done-preserved c =
 pub returns-in-Ok-Ends-clause-ok : goal.returns-in-Ok-Ends-clause-ok
 returns-in-Ok-Ends-clause-ok c =
     let l = c.loop-done.invariant in
-    let i = c.args.self.image in
-    let input = c.args.self.input in
+    let i = c.args.self.hart.cells.image in
+    let input = c.args.self.hart.input in
     let s = run i input c.loop-done.done in
     let takes = subst (λ bytes. TakesStep (step bytes s) s c.in-Ok-Ends.field-0 c.step.new.self) l.input (c.in-Ok-Ends.ensures.ok s l.shows l.going) in
     let turn : c.in-Ok-Ends.field-0 ≡ Ends c.in-Ok-Ends.end = cc in
