@@ -11,3 +11,4 @@ mod SortedEntries
 mod CourseLaws
 mod Collected
 mod StartLaws
+mod WalkLaws

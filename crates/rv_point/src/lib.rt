@@ -4,7 +4,11 @@
 mod course;
 mod fault;
 pub mod laws;
+mod points;
 mod start;
+mod walk;
 
 pub use fault::RunFault;
+pub use points::{Points, survey};
 pub use start::{Cells, ShardStart};
+pub use walk::{Walk, Whole};
