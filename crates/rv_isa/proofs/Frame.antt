@@ -39,7 +39,7 @@ spares-right c (u ∷ us) vs h = spares-right c us vs h.1
 
 -- ---- parts of a state
 
-register-kept : (s : State) (r w c : ℕ) → Spares c (use_register 7 r) → value (with_register r w s) c ≡ value s c
+pub register-kept : (s : State) (r w c : ℕ) → Spares c (use_register 7 r) → value (with_register r w s) c ≡ value s c
 unfolding value
 register-kept s r w c h = go (nat_lt c (2 ^ 30)) (c == reservation_cell) refl
   where
@@ -60,7 +60,7 @@ register-kept s r w c h = go (nat_lt c (2 ^ 30)) (c == reservation_cell) refl
     go false true e = refl
     go false false e = kept (c - 2 ^ 30 == 0) refl (ltb-false c (2 ^ 30) e)
 
-reservation-kept : (s : State) (r c : ℕ) → reservation_cell ≢ c → value (record s { reservation = r }) c ≡ value s c
+pub reservation-kept : (s : State) (r c : ℕ) → reservation_cell ≢ c → value (record s { reservation = r }) c ≡ value s c
 unfolding value
 reservation-kept s r c other = go (nat_lt c (2 ^ 30)) (c == reservation_cell) refl
   where
@@ -85,7 +85,7 @@ unfolding value
 memory-kept s a bs c fits other = ap (λ w. cond (nat_lt c (2 ^ 30)) w (cond (c == reservation_cell) s.reservation (register s (c - 2 ^ 30)))) (word-kept s.memory a bs c fits other)
 
 -- the counter, the position and the output are in no cell
-streams-kept : (s : State) (pc position : ℕ) (output : List ℕ) (c : ℕ) → value (record s { pc = pc; position = position; output = output }) c ≡ value s c
+pub streams-kept : (s : State) (pc position : ℕ) (output : List ℕ) (c : ℕ) → value (record s { pc = pc; position = position; output = output }) c ≡ value s c
 unfolding value
 streams-kept s pc position output c = refl
 
@@ -224,7 +224,7 @@ instruction-keeps input c (Fence rd rs1 imm) s h = advance-keeps c s s refl
 instruction-keeps input c Ecall s h = call-keeps input c s h
 instruction-keeps input c Ebreak s h = tt
 
-replaced-kept : (c : ℕ) (s : State) (a v : ℕ) → a % 4 ≡ 0 → Spares c (use_of 6 (a / 4)) → value (with_memory (store_word s.memory a v) s) c ≡ value s c
+pub replaced-kept : (c : ℕ) (s : State) (a v : ℕ) → a % 4 ≡ 0 → Spares c (use_of 6 (a / 4)) → value (with_memory (store_word s.memory a v) s) c ≡ value s c
 replaced-kept c s a v e h = memory-kept s a (to_le_bytes w32 v) c (omega arith) (h.0 (omega arith))
 
 reserved-keeps : (c : ℕ) (s : State) (rd a : ℕ) → Spares c (use_of 6 (a / 4) ++ use_register 7 rd ++ use_of 8 reservation_cell) → Keeps c s (load_reserved rd a s)

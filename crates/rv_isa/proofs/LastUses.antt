@@ -43,7 +43,7 @@ pub record LeftBy (ts : List Tuple) (c v bound : ℕ) (w : Tuple) : Type 0 where
   pub same : (u : Tuple) → In u ts → u.cell ≡ c → u.time ≡ w.time → u.value ≡ v
 
 -- the value is the initial one of a cell without uses, or what the last use left
-abbrev Holds : (ℕ → ℕ) → List Tuple → ℕ → ℕ → ℕ → Type 0
+abbrev pub Holds : (ℕ → ℕ) → List Tuple → ℕ → ℕ → ℕ → Type 0
 Holds initial ts c v bound = (((u : Tuple) → In u ts → u.cell ≢ c) × (v ≡ initial c)) ⊎ ((w : Tuple) × LeftBy ts c v bound w)
 
 held : (initial : ℕ → ℕ) (ts : List Tuple) (c v bound : ℕ) → Holds initial ts c v bound → v ≡ value_before initial ts c bound
@@ -185,12 +185,12 @@ module _ (initial : ℕ → ℕ) (input : List ℕ) (s : State) (n c : ℕ) (ts 
 
 -- ---- runs
 
-run-earlier : (i : Image) (input : List ℕ) (n : ℕ) (w : Tuple) → In w (history i input n) → w.time < time_of n 0
+pub run-earlier : (i : Image) (input : List ℕ) (n : ℕ) (w : Tuple) → In w (history i input n) → w.time < time_of n 0
 unfolding history visits run
 run-earlier i input zero w m = absurd m
 run-earlier i input (suc n) w m = all-earlier (initial_value i) input (run i input n) n 0 (history i input n) (run-earlier i input n) w m
 
-run-holds : (i : Image) (input : List ℕ) (n c : ℕ) → Holds (initial_value i) (history i input n) c (value (run i input n) c) (time_of n 0)
+pub run-holds : (i : Image) (input : List ℕ) (n c : ℕ) → Holds (initial_value i) (history i input n) c (value (run i input n) c) (time_of n 0)
 unfolding history visits run
 run-holds i input zero c = inl ((λ u m. absurd m), refl)
 run-holds i input (suc n) c = step-holds (initial_value i) input (run i input n) n c (history i input n) (run-earlier i input n) (run-holds i input n c)

@@ -20,3 +20,5 @@ pub use Rattle.rv_isa.proofs.RunRanges.{step-slots-rise}
 pub use Rattle.rv_isa.proofs.Slots.{all-within}
 -- what a row shows in a slot is the old value of its first access there, or 0
 pub use Rattle.rv_isa.proofs.Slots.{slot-seen}
+-- the cells that a hart has used are the table of the run
+pub use Rattle.rv_isa.proofs.TableOfRun.{touched-table}

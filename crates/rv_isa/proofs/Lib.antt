@@ -28,6 +28,8 @@ mod ExpectedShape
 mod TurnRanges
 mod UsesAreCells
 mod RunRanges
+mod Restored
 mod HartLaws
 mod MachineLaws
+mod TableOfRun
 pub mod Lemmas

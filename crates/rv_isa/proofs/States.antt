@@ -35,7 +35,7 @@ set-below n (x ∷ xs) (suc k) w h small = (h.0, set-below n xs k w h.1 small)
 
 -- ---- parts of a state
 
-register-stays : (s : State) (r w : ℕ) → IsState s → IsWord w → IsState (with_register r w s)
+pub register-stays : (s : State) (r w : ℕ) → IsState s → IsWord w → IsState (with_register r w s)
 register-stays s r w is small = record {
   pc = is.pc;
   aligned = is.aligned;
@@ -74,7 +74,7 @@ memory-stays s a bs is h = record {
   bytes = stored-bytes s.memory a bs h is.bytes;
 }
 
-reservation-stays : (s : State) (r : ℕ) → IsState s → IsWord r → IsState (record s { reservation = r })
+pub reservation-stays : (s : State) (r : ℕ) → IsState s → IsWord r → IsState (record s { reservation = r })
 reservation-stays s r is h = record { pc = is.pc; aligned = is.aligned; count = is.count; registers = is.registers; reservation = h; bytes = is.bytes }
 
 counter-stays : (s : State) (pc : ℕ) → IsState s → IsWord pc → pc % 4 ≡ 0 → IsState (record s { pc = pc })
@@ -184,7 +184,7 @@ instruction-stays input (Fence rd rs1 imm) s f is bytes within = advance-stays i
 instruction-stays input Ecall s f is bytes within = call-stays input s is bytes within
 instruction-stays input Ebreak s f is bytes within = tt
 
-replaced-stays : (s : State) (a v : ℕ) → IsState s → IsState (with_memory (store_word s.memory a v) s)
+pub replaced-stays : (s : State) (a v : ℕ) → IsState s → IsState (with_memory (store_word s.memory a v) s)
 replaced-stays s a v is = memory-stays s a (to_le_bytes w32 v) is (word-bytes v)
 
 fetch-stays : (input : List ℕ) (op : AtomicOp) (s : State) (rd a v : ℕ) → IsState s → s.position ≤ length input → Stays input (fetch_and op rd a v s)

@@ -3,26 +3,18 @@ use Rattle.std.specs.Prelude.{◌≡◌, ℕ, ◌+◌, ◌≤◌, List, ◌++◌
 use Rattle.std.specs.Int.{w32, to_le_bytes}
 use Rattle.rv_base.specs.declared.record.TableEntry.{TableEntry}
 use Rattle.rv_base.specs.declared.record.Tuple.{Tuple}
+use Rattle.rv_spec.specs.Words.{AreBytes}
 use Rattle.rv_spec.specs.Elf.{Image}
 use Rattle.rv_spec.specs.Step.{State, step}
 use Rattle.rv_spec.specs.Run.{end_of, next_state, run}
 use Rattle.rv_spec.specs.Cells.{is_cell, initial_value}
 use Rattle.rv_spec.specs.Visits.{visits}
 use Rattle.rv_spec.specs.Trace.{Row, access, history, table, tuples_left}
+use Rattle.rv_rules.specs.Agreement.{IsProgram}
 use Rattle.rv_row.specs.RowReading.{row_view}
 use Rattle.rv_mem.specs.Contents.{value_at, time_at, IsTable}
 use Rattle.rv_isa.specs.declared.hart.Stepped.{Stepped}
 use Rattle.rv_isa.specs.HartState.{HartState, StandsFor, IsTimed}
-
--- A cell that a hart may go on from: with time 0 it holds what the program begins with.
-pub record IsKnown (i : Image) (e : TableEntry) : Type 0 where
-  pub cell : IsTrue (is_cell 2 e.cell)
-  pub unused : e.time ≡ 0 → e.value ≡ initial_value i e.cell
-
--- the listed cells hold their values and times, and all others what the program begins with, at time 0
-pub record HoldsListed (h : HartState) (i : Image) (entries : List TableEntry) : Type 0 where
-  pub values : (c : ℕ) → IsTrue (is_cell 2 c) → value_at h.cells c ≡ value_at (record { image = i; touched = entries }) c
-  pub times : (c : ℕ) → IsTrue (is_cell 2 c) → time_at h.cells c ≡ time_at (record { image = i; touched = entries }) c
 
 -- A step from a state that the hart stands for: how it ends the run, if it does, the bytes of input that it takes, and the bytes that it puts, which are the first ones of a word. The hart then stands for the next state; a step that ends the run stays.
 pub record TakesStepFrom (input : List ℕ) (s : State) (m : Stepped) (h : HartState) : Type 0 where
@@ -48,5 +40,5 @@ pub record TakesTimes (input : List ℕ) (s : State) (before : List Tuple) (k : 
 -- The law of the table: the cells that a hart has used, after n steps of a run, are the table of the run. The step that ends a run counts: it leaves its times, and the state stays.
 abbrev pub TouchedIsTable : Type 0
 TouchedIsTable =
-    (i : Image) (input : List ℕ) (n : ℕ) (h : HartState) (entries : List TableEntry) → StandsFor h (run i input n) → IsTimed h (history i input n) n → IsTable h.cells entries
-    → entries ≡ table i input n
+    (i : Image) (input : List ℕ) (n : ℕ) (h : HartState) (entries : List TableEntry) → IsProgram i → AreBytes input → StandsFor h (run i input n) → IsTimed h (history i input n) n
+    → IsTable h.cells entries → entries ≡ table i input n

@@ -12,5 +12,6 @@ pub mod Ranges
 pub mod HartState
 pub mod HartView
 pub mod Hart
+pub mod Resumed
 pub mod Accesses
 pub mod Look

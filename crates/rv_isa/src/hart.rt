@@ -8,7 +8,8 @@ ghost use Rattle.rv_spec.specs.Run.{next_state};
 ghost use Rattle.rv_spec.specs.Grammar.{IsRising};
 ghost use Rattle.rv_mem.specs.Contents.{IsTable};
 ghost use Rattle.rv_isa.specs.HartState.{StandsFor, IsTimed};
-ghost use Rattle.rv_isa.specs.Hart.{IsKnown, HoldsListed, TakesStepFrom, TakesTimes, left_after, row_from};
+ghost use Rattle.rv_isa.specs.Resumed.{IsKnown, HoldsListed, resumed};
+ghost use Rattle.rv_isa.specs.Hart.{TakesStepFrom, TakesTimes, left_after, row_from};
 ghost use Rattle.rv_isa.specs.Look.{TellsStep};
 ghost use Rattle.rv_row.specs.RowReading.{row_view};
 
@@ -16,6 +17,7 @@ use crate::accesses::Touches;
 use crate::expected::make;
 use crate::finding::find;
 use crate::look::{Look, row_accesses};
+use crate::restoring::restore;
 use crate::step::Step;
 use rv_base::{End, NoMemory, Place, TableEntry};
 use rv_elf::Image;
@@ -93,9 +95,16 @@ impl<'a> Hart<'a> {
         ensures pc { IfOk result (λ h. h.pc ≡ place.pc) }
         ensures position { IfOk result (λ h. h.position ≡ place.input) }
         ensures cells { IfOk result (λ h. HoldsListed h image.now cells.now) }
-        ensures stands { IfOk result (λ h. ∥ ((s : State) × StandsFor h s) ∥₁) }
+        ensures stands { IfOk result (λ h. StandsFor h (resumed image.now place cells.now)) }
     {
-        Err(NoMemory)
+        let mut memory = Memory::new(alloc, image);
+        restore(&mut memory, cells)?;
+        Ok(Hart {
+            cells: memory,
+            input,
+            pc: place.pc,
+            position: place.input,
+        })
     }
 
     /// The address of the next instruction.

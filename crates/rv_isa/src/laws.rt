@@ -3,6 +3,7 @@
 ghost use Rattle.std.specs.Prelude.{ℕ, List};
 ghost use Rattle.rv_spec.specs.Elf.{Image};
 ghost use Rattle.rv_rules.specs.Agreement.{HoldsLastUses, RunsAreStates, StepsAgree};
+ghost use Rattle.rv_isa.specs.Hart.{TouchedIsTable};
 ghost use Rattle.rv_isa.specs.Follows.{SeenStepsFollow};
 ghost use Rattle.rv_isa.specs.Shape.{ExpectedIsShaped};
 ghost use Rattle.rv_isa.specs.Ranges.{RunsFit};
@@ -40,4 +41,10 @@ pub fn last_uses()
 /// to 5, and a code, which is a word, in kind 0 alone.
 pub fn ranges()
     ensures { (image : Image) (input : List ℕ) → RunsFit image input }
+{}
+
+/// The cells that a hart has used, rising, with their values and the times of their last uses, are the table
+/// of the run, of which it took the first steps, also where the last of them ends the run.
+pub fn tables()
+    ensures { TouchedIsTable }
 {}

@@ -14,6 +14,7 @@ pub mod laws;
 mod look;
 mod machine;
 mod operands;
+mod restoring;
 mod step;
 #[cfg(test)]
 mod tests;

@@ -1,5 +1,5 @@
 -- What a memory holds in each cell, before and after a change.
-use Rattle.std.proofs.Common.{◌≡◌, ◌≢◌, ◌⊎◌, ℕ, zero, suc, ◌+◌, ◌-◌, ◌^◌, ◌<◌, ◌≤◌, Bool, true, false, cond, ◌&&◌, ◌||◌, ◌==◌, nat_lt, List, [], ◌∷◌, ◌++◌, length, map, replicate, set, get_or, Option, Some, None, Result, Ok, Err, option_map, unwrap_or, refl, sym, ◌∙◌, ap, ap₂, subst, inl, inr, arith, append-nil, length-set, get_or-set_other, get_or-set_same, true≢false}
+use Rattle.std.proofs.Common.{◌≡◌, ◌≢◌, ◌⊎◌, ℕ, zero, suc, ◌+◌, ◌-◌, ◌^◌, ◌<◌, ◌≤◌, Bool, true, false, cond, ◌&&◌, ◌||◌, ◌==◌, nat_lt, List, [], ◌∷◌, ◌++◌, length, map, replicate, set, get_or, Option, Some, None, Result, Ok, Err, option_map, unwrap_or, refl, sym, ◌∙◌, ap, ap₂, subst, inl, inr, arith, append-nil, IsTrue, get_or-set_other, get_or-set_same, true≢false}
 use Rattle.std.specs.List.{AllByRecursion, Contains}
 use Rattle.std.specs.Option.{option_or}
 use Rattle.std.specs.Result.{OnErr}
@@ -8,17 +8,19 @@ use Rattle.std.proofs.lemmas.List.{map-append}
 use Rattle.std.proofs.lemmas.List.Elements.{Contains-append_left, Contains-append_right, Contains-append_cases}
 use Rattle.std.proofs.lemmas.List.Folds.{find-append}
 use Rattle.rv_base.specs.declared.record.TableEntry.{TableEntry}
+use Rattle.rv_base.specs.declared.record.Touch.{Touch}
 use Rattle.rv_spec.specs.Elf.{Image}
 use Rattle.rv_spec.specs.Words.{word}
 use Rattle.rv_spec.specs.Step.{start, register}
-use Rattle.rv_spec.specs.Cells.{value, initial_value, is_cell, reservation_cell}
+use Rattle.rv_spec.specs.Cells.{value, initial_value, is_cell, reservation_cell, time_of}
 use Rattle.rv_spec.specs.Grammar.{IsRising}
 use Rattle.rv_mem.specs.declared.word.Word.{Word}
 use Rattle.rv_mem.specs.declared.words.Words.{Words}
 use Rattle.rv_mem.specs.Contents.{Contents, entry_at, value_at, time_at, IsSet, IsTable}
+use Rattle.rv_mem.specs.Left.{last_touch, value_after, time_after, IsLeft}
 use Rattle.rv_mem.specs.Used.{no_word, if_used, used, listed_word}
 use Rattle.rv_mem.specs.Words.{first_word}
-use Rattle.rv_mem.specs.StoredCells.{stored_word, stored_cell, contents, AreStoredCells}
+use Rattle.rv_mem.specs.StoredCells.{stored_word, stored_cell, contents, AreStoredCells, word_after}
 use Rattle.rv_mem.proofs.UsedLaws.{used-same, used-none, used-add, one_used}
 use Rattle.rv_mem.proofs.WordsLaws.{equal_or_not}
 
@@ -104,18 +106,23 @@ value-beyond m r c h = ap (λ o. unwrap_or (option_map (λ (e : TableEntry). e.v
 
 -- ---- a change of one cell, and of none
 
-low_or_high : (a b : ℕ) → (a < b) ⊎ (b ≤ a)
+pub low_or_high : (a b : ℕ) → (a < b) ⊎ (b ≤ a)
 low_or_high a b = elim (nat_lt a b) as (λ t. nat_lt a b ≡ t → (a < b) ⊎ (b ≤ a)) [ true ↦ λ e. inl (ltb-true a b e) | false ↦ λ e. inr (ltb-false a b e) ] refl
 
-record IsChange (m n : Words) (r s : List Word) (cell : ℕ) (w : Word) : Type 0 where
-  image : n.image ≡ m.image
-  full : length s ≡ 33
-  here : stored_cell n s cell ≡ w
-  others : (c : ℕ) → c < 1073741857 → c ≢ cell → stored_cell n s c ≡ stored_cell m r c
+pub record IsChange (m n : Words) (r s : List Word) (cell : ℕ) (w : Word) : Type 0 where
+  pub image : n.image ≡ m.image
+  pub full : length s ≡ 33
+  pub is_cell : IsTrue (is_cell 2 cell)
+  pub here : stored_cell n s cell ≡ w
+  pub others : (c : ℕ) → c < 1073741857 → c ≢ cell → stored_cell n s c ≡ stored_cell m r c
 
-begun-changed : (m n : Words) (r s : List Word) (cell : ℕ) (w : Word) → AreStoredCells m r → 0 < w.time → IsChange m n r s cell w → AreStoredCells n s
-begun-changed m n r s cell w begun t change = record { full = change.full; unused = λ c h z. by c h z (equal_or_not c cell) }
+pub begun-changed : (m n : Words) (r s : List Word) (cell : ℕ) (w : Word) → AreStoredCells m r → 0 < w.time → IsChange m n r s cell w → AreStoredCells n s
+begun-changed m n r s cell w begun t change = record { full = change.full; cells = λ c h z. is c h z (equal_or_not c cell); unused = λ c h z. by c h z (equal_or_not c cell) }
   where
+    is : (c : ℕ) → c < 1073741857 → 0 < (stored_cell n s c).time → (c ≡ cell) ⊎ (c ≢ cell) → IsTrue (is_cell 2 c)
+    is c h z (inl e) = subst (λ k. IsTrue (is_cell 2 k)) (sym e) change.is_cell
+    is c h z (inr d) = begun.cells c h (subst (λ (v : Word). 0 < v.time) (change.others c h d) z)
+
     by : (c : ℕ) → c < 1073741857 → (stored_cell n s c).time ≡ 0 → (c ≡ cell) ⊎ (c ≢ cell) → (stored_cell n s c).value ≡ initial_value n.image c
     by c h z (inl e) =
         let set_time : (stored_cell n s c).time ≡ w.time = ap (λ k. (stored_cell n s k).time) e ∙ ap (λ (v : Word). v.time) change.here in
@@ -124,7 +131,7 @@ begun-changed m n r s cell w begun t change = record { full = change.full; unuse
         let same = change.others c h d in
         ap (λ (v : Word). v.value) same ∙ begun.unused c h (sym (ap (λ (v : Word). v.time) same) ∙ z) ∙ ap (λ i. initial_value i c) (sym change.image)
 
-set-changed : (m n : Words) (r s : List Word) (cell : ℕ) (w : Word) → AreStoredCells m r → AreStoredCells n s → cell < 1073741857 → IsChange m n r s cell w → IsSet (contents m r) (contents n s) cell w.value w.time
+pub set-changed : (m n : Words) (r s : List Word) (cell : ℕ) (w : Word) → AreStoredCells m r → AreStoredCells n s → cell < 1073741857 → IsChange m n r s cell w → IsSet (contents m r) (contents n s) cell w.value w.time
 set-changed m n r s cell w begun now h change = record {
   image = change.image;
   value_set = value-kept n s cell now h ∙ ap (λ (v : Word). v.value) change.here;
@@ -170,78 +177,108 @@ cell-within c e = by (low_or_high c 1073741857)
     by (inl h) = h
     by (inr h) = absurd (true≢false (sym e ∙ no_cell c h))
 
-change-register : (m : Words) (r : List Word) (cell : ℕ) (w : Word) → AreStoredCells m r → 2 ^ 30 ≤ cell → cell < 1073741857 → IsChange m m r (set r (cell - 2 ^ 30) w) cell w
-change-register m r cell w begun low high =
-    let full : length r ≡ 33 = begun.full in
-    record {
-      image = refl;
-      full = length-set r (cell - 2 ^ 30) w ∙ begun.full;
-      here = cell-register m (set r (cell - 2 ^ 30) w) cell low ∙ get_or-set_same r (cell - 2 ^ 30) w no_word (omega arith);
-      others = λ c h d. by c d (low_or_high c (2 ^ 30));
-    }
+pub register-set : (m : Words) (r : List Word) (cell : ℕ) (w : Word) → length r ≡ 33 → 2 ^ 30 ≤ cell → cell < 1073741857 → stored_cell m (set r (cell - 2 ^ 30) w) cell ≡ w
+register-set m r cell w full low high = cell-register m (set r (cell - 2 ^ 30) w) cell low ∙ get_or-set_same r (cell - 2 ^ 30) w no_word (omega arith)
+
+pub register-others : (m : Words) (r : List Word) (cell : ℕ) (w : Word) → 2 ^ 30 ≤ cell → (c : ℕ) → c ≢ cell → stored_cell m (set r (cell - 2 ^ 30) w) c ≡ stored_cell m r c
+register-others m r cell w low c d = by (low_or_high c (2 ^ 30))
   where
-    by : (c : ℕ) → c ≢ cell → (c < 2 ^ 30) ⊎ (2 ^ 30 ≤ c) → stored_cell m (set r (cell - 2 ^ 30) w) c ≡ stored_cell m r c
-    by c d (inl l) = cell-word m (set r (cell - 2 ^ 30) w) c l ∙ sym (cell-word m r c l)
-    by c d (inr l) =
+    by : (c < 2 ^ 30) ⊎ (2 ^ 30 ≤ c) → stored_cell m (set r (cell - 2 ^ 30) w) c ≡ stored_cell m r c
+    by (inl l) = cell-word m (set r (cell - 2 ^ 30) w) c l ∙ sym (cell-word m r c l)
+    by (inr l) =
         cell-register m (set r (cell - 2 ^ 30) w) c l ∙ get_or-set_other r (cell - 2 ^ 30) (c - 2 ^ 30) w no_word (λ e. d (omega arith))
         ∙ sym (cell-register m r c l)
 
-change-word : (m n : Words) (r : List Word) (cell : ℕ) (w : Word) → AreStoredCells m r → cell < 2 ^ 30 → n.image ≡ m.image → stored_word n cell ≡ w
-    → ((c : ℕ) → c < 2 ^ 30 → c ≢ cell → stored_word n c ≡ stored_word m c) → IsChange m n r r cell w
-change-word m n r cell w begun low image here others = record {
-  image = image;
-  full = begun.full;
-  here = cell-word n r cell low ∙ here;
-  others = λ c h d. by c d (low_or_high c (2 ^ 30));
-}
+pub word-others-kept : (m n : Words) (r : List Word) (cell : ℕ) → ((c : ℕ) → c < 2 ^ 30 → c ≢ cell → stored_word n c ≡ stored_word m c) → (c : ℕ) → c ≢ cell → stored_cell n r c ≡ stored_cell m r c
+word-others-kept m n r cell others c d = by (low_or_high c (2 ^ 30))
   where
-    by : (c : ℕ) → c ≢ cell → (c < 2 ^ 30) ⊎ (2 ^ 30 ≤ c) → stored_cell n r c ≡ stored_cell m r c
-    by c d (inl l) = cell-word n r c l ∙ others c l d ∙ sym (cell-word m r c l)
-    by c d (inr l) = cell-register n r c l ∙ sym (cell-register m r c l)
-
-pub begun-register : (m : Words) (r : List Word) (cell : ℕ) (w : Word) → AreStoredCells m r → 0 < w.time → 2 ^ 30 ≤ cell → cell < 1073741857 → AreStoredCells m (set r (cell - 2 ^ 30) w)
-begun-register m r cell w begun t low high = begun-changed m m r (set r (cell - 2 ^ 30) w) cell w begun t (change-register m r cell w begun low high)
-
-pub set-register : (m : Words) (r : List Word) (cell : ℕ) (w : Word) → AreStoredCells m r → 0 < w.time → 2 ^ 30 ≤ cell → cell < 1073741857
-    → IsSet (contents m r) (contents m (set r (cell - 2 ^ 30) w)) cell w.value w.time
-set-register m r cell w begun t low high =
-    let change = change-register m r cell w begun low high in
-    set-changed m m r (set r (cell - 2 ^ 30) w) cell w begun (begun-register m r cell w begun t low high) high change
-
-pub begun-word : (m n : Words) (r : List Word) (cell : ℕ) (w : Word) → AreStoredCells m r → 0 < w.time → cell < 2 ^ 30 → n.image ≡ m.image → stored_word n cell ≡ w
-    → ((c : ℕ) → c < 2 ^ 30 → c ≢ cell → stored_word n c ≡ stored_word m c) → AreStoredCells n r
-begun-word m n r cell w begun t low image here others = begun-changed m n r r cell w begun t (change-word m n r cell w begun low image here others)
-
-pub set-word : (m n : Words) (r : List Word) (cell : ℕ) (w : Word) → AreStoredCells m r → 0 < w.time → cell < 2 ^ 30 → n.image ≡ m.image → stored_word n cell ≡ w
-    → ((c : ℕ) → c < 2 ^ 30 → c ≢ cell → stored_word n c ≡ stored_word m c) → IsSet (contents m r) (contents n r) cell w.value w.time
-set-word m n r cell w begun t low image here others =
-    set-changed m n r r cell w begun (begun-word m n r cell w begun t low image here others) (omega arith) (change-word m n r cell w begun low image here others)
+    by : (c < 2 ^ 30) ⊎ (2 ^ 30 ≤ c) → stored_cell n r c ≡ stored_cell m r c
+    by (inl l) = cell-word n r c l ∙ others c l d ∙ sym (cell-word m r c l)
+    by (inr l) = cell-register n r c l ∙ sym (cell-register m r c l)
 
 -- where no word changes, no cell does
-same-cells : (m n : Words) (r : List Word) (cell : ℕ) → stored_word n cell ≡ stored_word m cell → ((c : ℕ) → c < 2 ^ 30 → c ≢ cell → stored_word n c ≡ stored_word m c) → (c : ℕ) → stored_cell n r c ≡ stored_cell m r c
-same-cells m n r cell here others c = by (low_or_high c (2 ^ 30)) (equal_or_not c cell)
+pub same-cells : (m n : Words) (r : List Word) → ((c : ℕ) → c < 2 ^ 30 → stored_word n c ≡ stored_word m c) → (c : ℕ) → stored_cell n r c ≡ stored_cell m r c
+same-cells m n r same c = by (low_or_high c (2 ^ 30))
   where
-    by : (c < 2 ^ 30) ⊎ (2 ^ 30 ≤ c) → (c ≡ cell) ⊎ (c ≢ cell) → stored_cell n r c ≡ stored_cell m r c
-    by (inl l) (inl e) = cell-word n r c l ∙ ap (stored_word n) e ∙ here ∙ ap (stored_word m) (sym e) ∙ sym (cell-word m r c l)
-    by (inl l) (inr d) = cell-word n r c l ∙ others c l d ∙ sym (cell-word m r c l)
-    by (inr l) o = cell-register n r c l ∙ sym (cell-register m r c l)
+    by : (c < 2 ^ 30) ⊎ (2 ^ 30 ≤ c) → stored_cell n r c ≡ stored_cell m r c
+    by (inl l) = cell-word n r c l ∙ same c l ∙ sym (cell-word m r c l)
+    by (inr l) = cell-register n r c l ∙ sym (cell-register m r c l)
 
-pub begun-same : (m n : Words) (r : List Word) (cell : ℕ) → AreStoredCells m r → n.image ≡ m.image → stored_word n cell ≡ stored_word m cell
-    → ((c : ℕ) → c < 2 ^ 30 → c ≢ cell → stored_word n c ≡ stored_word m c) → AreStoredCells n r
-begun-same m n r cell begun image here others = record {
+pub begun-same : (m n : Words) (r : List Word) → AreStoredCells m r → n.image ≡ m.image → ((c : ℕ) → c < 2 ^ 30 → stored_word n c ≡ stored_word m c) → AreStoredCells n r
+begun-same m n r begun image words = record {
   full = begun.full;
+  cells = λ c h z. begun.cells c h (subst (λ (v : Word). 0 < v.time) (same-cells m n r words c) z);
   unused = λ c h z.
-      let same = same-cells m n r cell here others c in
+      let same = same-cells m n r words c in
       ap (λ (v : Word). v.value) same ∙ begun.unused c h (sym (ap (λ (v : Word). v.time) same) ∙ z) ∙ ap (λ i. initial_value i c) (sym image);
 }
 
-pub same-contents : (m n : Words) (r : List Word) (cell : ℕ) → n.image ≡ m.image → stored_word n cell ≡ stored_word m cell
-    → ((c : ℕ) → c < 2 ^ 30 → c ≢ cell → stored_word n c ≡ stored_word m c) → contents n r ≡ contents m r
-same-contents m n r cell image here others =
-    ap₂ of image (used-same (stored_cell n r) (stored_cell m r) 0 1073741857 (λ k h. same-cells m n r cell here others (0 + k)))
+pub same-contents : (m n : Words) (r : List Word) → n.image ≡ m.image → ((c : ℕ) → c < 2 ^ 30 → stored_word n c ≡ stored_word m c) → contents n r ≡ contents m r
+same-contents m n r image words =
+    ap₂ of image (used-same (stored_cell n r) (stored_cell m r) 0 1073741857 (λ k h. same-cells m n r words (0 + k)))
   where
     of : Image → List TableEntry → Contents
     of i es = record { image = i; touched = es }
+
+-- ---- the uses of a step
+
+-- the last touch of a cell is a touch of it
+last-in : (P : Touch → Type 0) (ts : List Touch) (c : ℕ) → AllByRecursion P ts → (o : Option Touch) → last_touch ts c ≡ o → (o ≡ None) ⊎ ((t : Touch) × (o ≡ Some t) × P t × (t.cell ≡ c))
+last-in P [] c all o is = inl (sym is)
+last-in P (x ∷ xs) c all o is = go (last-in P xs c all.1 (last_touch xs c) refl) (x.cell == c) refl
+  where
+    go : (last_touch xs c ≡ None) ⊎ ((t : Touch) × (last_touch xs c ≡ Some t) × P t × (t.cell ≡ c)) → (b : Bool) → (x.cell == c) ≡ b → (o ≡ None) ⊎ ((t : Touch) × (o ≡ Some t) × P t × (t.cell ≡ c))
+    go (inr l) b e = inr (l.0, sym is ∙ ap (λ p. option_or p (cond (x.cell == c) (Some x) None)) l.1, l.2, l.3)
+    go (inl none) true e = inr (x, sym is ∙ ap (λ p. option_or p (cond (x.cell == c) (Some x) None)) none ∙ ap (λ b. cond b (Some x) None) e, all.0, eqb-true x.cell c e)
+    go (inl none) false e = inl (sym is ∙ ap (λ p. option_or p (cond (x.cell == c) (Some x) None)) none ∙ ap (λ b. cond b (Some x) None) e)
+
+module _ (m n : Words) (r s : List Word) (step : ℕ) (ts : List Touch) (begun : AreStoredCells m r) (image : n.image ≡ m.image) (full : length s ≡ 33)
+    (cells : AllByRecursion (λ t. IsTrue (is_cell 2 t.cell)) ts) (slots : AllByRecursion (λ t. 0 < t.slot) ts)
+    (left : (c : ℕ) → c < 1073741857 → stored_cell n s c ≡ word_after step ts c (stored_cell m r c)) where
+  -- a cell without a touch does not change
+  untouched : (c : ℕ) → c < 1073741857 → last_touch ts c ≡ None → stored_cell n s c ≡ stored_cell m r c
+  untouched c h none = left c h ∙ ap (λ o. after o (stored_cell m r c)) none
+    where
+      after : Option Touch → Word → Word
+      after o w = record { value = unwrap_or (option_map (λ (t : Touch). t.new) o) w.value; time = unwrap_or (option_map (λ (t : Touch). time_of step t.slot) o) w.time }
+
+  touched-time : (c : ℕ) → c < 1073741857 → (t : Touch) → last_touch ts c ≡ Some t → (stored_cell n s c).time ≡ time_of step t.slot
+  touched-time c h t some = ap (λ (w : Word). w.time) (left c h) ∙ ap (λ o. unwrap_or (option_map (λ (t : Touch). time_of step t.slot) o) (stored_cell m r c).time) some
+
+  pub begun-left : AreStoredCells n s
+  begun-left = record {
+    full = full;
+    cells = λ c h z. elim (last-in (λ t. IsTrue (is_cell 2 t.cell)) ts c cells (last_touch ts c) refl) [
+      | inl none ↦ begun.cells c h (subst (λ (v : Word). 0 < v.time) (untouched c h none) z)
+      | inr l ↦ subst (λ k. IsTrue (is_cell 2 k)) l.3 l.2
+    ];
+    unused = λ c h z. elim (last-in (λ t. 0 < t.slot) ts c slots (last_touch ts c) refl) [
+      | inl none ↦
+          let same = untouched c h none in
+          ap (λ (v : Word). v.value) same ∙ begun.unused c h (sym (ap (λ (v : Word). v.time) same) ∙ z) ∙ ap (λ i. initial_value i c) (sym image)
+      | inr l ↦ absurd (omega (arith, l.2, touched-time c h l.0 l.1, z))
+    ];
+  }
+
+  -- no touch is of a number beyond the cells
+  beyond : (c : ℕ) → 1073741857 ≤ c → last_touch ts c ≡ None
+  beyond c h = elim (last-in (λ t. IsTrue (is_cell 2 t.cell)) ts c cells (last_touch ts c) refl) [
+    | inl none ↦ none
+    | inr l ↦ absurd (true≢false (sym l.2 ∙ ap (is_cell 2) l.3 ∙ no_cell c h))
+  ]
+
+  pub is-left : IsLeft (contents m r) (contents n s) step ts
+  is-left = record { image = image; values = λ c. values c (low_or_high c 1073741857); times = λ c. times c (low_or_high c 1073741857) }
+    where
+      values : (c : ℕ) → (c < 1073741857) ⊎ (1073741857 ≤ c) → value_at (contents n s) c ≡ value_after ts c (value_at (contents m r) c)
+      values c (inl l) = value-kept n s c begun-left l ∙ ap (λ (v : Word). v.value) (left c l) ∙ ap (value_after ts c) (sym (value-kept m r c begun l))
+      values c (inr l) =
+          value-beyond n s c l ∙ ap (λ i. initial_value i c) image ∙ sym (value-beyond m r c l)
+          ∙ sym (ap (λ o. unwrap_or (option_map (λ (t : Touch). t.new) o) (value_at (contents m r) c)) (beyond c l))
+
+      times : (c : ℕ) → (c < 1073741857) ⊎ (1073741857 ≤ c) → time_at (contents n s) c ≡ time_after step ts c (time_at (contents m r) c)
+      times c (inl l) = time-kept n s c l ∙ ap (λ (v : Word). v.time) (left c l) ∙ ap (time_after step ts c) (sym (time-kept m r c l))
+      times c (inr l) = time-beyond n s c l ∙ sym (time-beyond m r c l) ∙ sym (ap (λ o. unwrap_or (option_map (λ (t : Touch). time_of step t.slot) o) (time_at (contents m r) c)) (beyond c l))
 
 -- ---- the cells before the first step
 
@@ -310,7 +347,7 @@ first-cell m begun c = by (low_or_high c (2 ^ 30))
         to_word v = record { value = v; time = 0 }
 
 pub begun-first : (m : Words) → ((w : ℕ) → stored_word m w ≡ first_word m.image w) → AreStoredCells m first_registers
-begun-first m begun = record { full = refl; unused = λ c h z. ap (λ (v : Word). v.value) (first-cell m begun c) }
+begun-first m begun = record { full = refl; cells = λ c h z. (let none : (stored_cell m first_registers c).time ≡ 0 = ap (λ (v : Word). v.time) (first-cell m begun c) in absurd (omega arith)); unused = λ c h z. ap (λ (v : Word). v.value) (first-cell m begun c) }
 
 pub touched-first : (m : Words) → ((w : ℕ) → stored_word m w ≡ first_word m.image w) → used (stored_cell m first_registers) 0 1073741857 ≡ []
 touched-first m begun = used-none (stored_cell m first_registers) 0 1073741857 (λ k h. ap (λ (v : Word). v.time) (first-cell m begun (0 + k)))
@@ -393,6 +430,9 @@ used-listed f from (suc n) c l h t = by (equal_or_not (from + n) c) (λ low. use
 pub table-touched : (m : Words) (r : List Word) → AreStoredCells m r → IsTable (contents m r) (contents m r).touched
 table-touched m r begun = record {
   rising = (rises (stored_cell m r) 0 1073741857).0;
+  cells = λ e there.
+      let p = listed-used (stored_cell m r) 0 1073741857 e there in
+      subst (λ c. IsTrue (is_cell 2 c)) (sym (ap (λ (e : TableEntry). e.cell) p.3)) (begun.cells p.0 (let h = p.1 in omega arith) p.2);
   set_only = λ e there.
       let p = listed-used (stored_cell m r) 0 1073741857 e there in
       let c : ℕ = p.0 in

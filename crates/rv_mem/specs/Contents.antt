@@ -1,9 +1,9 @@
 -- What a memory holds: the cells of a program, and over them those that were set since.
-use Rattle.std.specs.Prelude.{◌≡◌, ◌≢◌, ◌<◌, ℕ, List, find, map, option_map, unwrap_or, Option, ◌==◌}
+use Rattle.std.specs.Prelude.{◌≡◌, ◌≢◌, ◌<◌, ℕ, List, find, map, option_map, unwrap_or, Option, ◌==◌, IsTrue}
 use Rattle.std.specs.List.{Contains}
 use Rattle.rv_base.specs.declared.record.TableEntry.{TableEntry}
 use Rattle.rv_spec.specs.Elf.{Image}
-use Rattle.rv_spec.specs.Cells.{initial_value}
+use Rattle.rv_spec.specs.Cells.{is_cell, initial_value}
 use Rattle.rv_spec.specs.Grammar.{IsRising}
 
 -- The cells that were set, by rising number, each with its value and time. A time is above 0.
@@ -34,5 +34,6 @@ pub record IsSet (old new : Contents) (cell value time : ℕ) : Type 0 where
 -- The cells that were set, each once and by rising number, with their values and times.
 pub record IsTable (m : Contents) (entries : List TableEntry) : Type 0 where
   pub rising : IsRising (map (λ e. e.cell) entries)
+  pub cells : (e : TableEntry) → Contains entries e → IsTrue (is_cell 2 e.cell)
   pub set_only : (e : TableEntry) → Contains entries e → (0 < e.time) × (e.value ≡ value_at m e.cell) × (e.time ≡ time_at m e.cell)
   pub all_set : (cell : ℕ) → 0 < time_at m cell → Contains entries (record { cell = cell; value = value_at m cell; time = time_at m cell })

@@ -2,6 +2,7 @@
 #![tactic(auto)]
 
 mod directory;
+mod leaving;
 mod memory;
 mod page;
 mod word;

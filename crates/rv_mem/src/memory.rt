@@ -7,6 +7,7 @@ ghost use Rattle.rv_rules.specs.Agreement.{IsProgram};
 ghost use Rattle.rv_mem.specs.Contents.{value_at, time_at, IsSet, IsTable};
 ghost use Rattle.rv_mem.specs.Left.{IsLeft};
 
+use crate::leaving::{leave_all, put, reserve_page, reserve_pages};
 use crate::page::list_used;
 use crate::word::Word;
 use crate::words::Words;
@@ -86,12 +87,9 @@ impl<'a> Memory<'a> {
         ensures ok { OnOk result (IsSet self.old self.new cell value time) }
         ensures err { OnErr result (self.new ≡ self.old) }
     {
+        reserve_page(&mut self.words, cell)?;
         let word = Word { value, time };
-        if cell < REGISTER_CELLS {
-            self.words.set(cell, word)?;
-            return Ok(());
-        }
-        self.registers[(cell - REGISTER_CELLS) as usize] = word;
+        put(&mut self.words, &mut self.registers, cell, word);
         Ok(())
     }
 
@@ -104,7 +102,9 @@ impl<'a> Memory<'a> {
         ensures ok { OnOk result (IsLeft self.old self.new step touches.now) }
         ensures err { OnErr result (self.new ≡ self.old) }
     {
-        Err(NoMemory)
+        reserve_pages(&mut self.words, touches)?;
+        leave_all(&mut self.words, &mut self.registers, step, touches);
+        Ok(())
     }
 
     /// The cells that were set, by rising number, with their values and times.

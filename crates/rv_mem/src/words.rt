@@ -1,6 +1,6 @@
 //! The words of memory: those of the image, until the first one of a page is set.
 
-ghost use Rattle.std.specs.Prelude.{◌≡◌, ℕ, ◌+◌, ◌*◌, ◌^◌, ◌<◌, ◌≢◌, ◌++◌, IfOk, OnOk, OnErr, slice_index_or};
+ghost use Rattle.std.specs.Prelude.{◌≡◌, ℕ, ◌+◌, ◌*◌, ◌/◌, ◌^◌, ◌<◌, ◌≢◌, ◌++◌, IfOk, OnOk, slice_index_or};
 ghost use Rattle.rv_mem.specs.Directory.{page_number};
 ghost use Rattle.rv_mem.specs.Used.{no_word, used};
 ghost use Rattle.rv_mem.specs.Words.{ArePages, first_word};
@@ -58,48 +58,52 @@ impl<'a> Words<'a> {
         }
     }
 
-    /// Sets word `w` of memory.
-    pub fn set(&mut self, w: u32, word: Word) -> Result<(), NoMemory>
+    /// Makes the page of word `w` of memory, where it is not there. No word changes.
+    pub fn reserve(&mut self, w: u32) -> Result<(), NoMemory>
         requires { w < REGISTER_CELLS }
         ensures image { self.new.image ≡ self.old.image }
-        ensures ok { OnOk result (stored_word self.new w ≡ word) }
-        ensures err { OnErr result (stored_word self.new w ≡ stored_word self.old w) }
-        ensures others { (other : ℕ) → other < REGISTER_CELLS → other ≢ w → stored_word self.new other ≡ stored_word self.old other }
+        ensures made { OnOk result (0 < page_number self.new.directory.entries.items (w / 16)) }
+        ensures kept { (p : ℕ) → p < 2 ^ 26 → 0 < page_number self.old.directory.entries.items p → 0 < page_number self.new.directory.entries.items p }
+        ensures same { (v : ℕ) → v < REGISTER_CELLS → stored_word self.new v ≡ stored_word self.old v }
     {
-        let index = self.page_for(w as usize / 16)?;
-        self.pages[index].words[w as usize % 16] = word;
+        let page = w as usize / 16;
+        if self.directory.find(page).is_none() {
+            self.add_page(page)?;
+        }
         Ok(())
     }
 
-    /// The place of a page, which is made if need be.
-    fn page_for(&mut self, page: usize) -> Result<usize, NoMemory>
-        requires { page < 2 ^ 26 }
+    /// Gives word `w` of memory, whose page was made, a value and a time.
+    pub fn put(&mut self, w: u32, word: Word)
+        requires in_memory { w < REGISTER_CELLS }
+        requires made { 0 < page_number self.old.directory.entries.items (w / 16) }
         ensures image { self.new.image ≡ self.old.image }
-        ensures made { IfOk result (λ index. page_number self.new.directory.entries.items page ≡ index + 1) }
-        ensures same { (w : ℕ) → w < REGISTER_CELLS → stored_word self.new w ≡ stored_word self.old w }
+        ensures directory { self.new.directory ≡ self.old.directory }
+        ensures set { stored_word self.new w ≡ word }
+        ensures others { (other : ℕ) → other < REGISTER_CELLS → other ≢ w → stored_word self.new other ≡ stored_word self.old other }
     {
-        match self.directory.find(page) {
-            Some(index) => Ok(index),
-            None => self.add_page(page),
-        }
+        let Some(index) = self.directory.find(w as usize / 16) else {
+            unreachable!();
+        };
+        self.pages[index].words[w as usize % 16] = word;
     }
 
-    /// Makes a page with the words of the image, and gives its place.
-    fn add_page(&mut self, page: usize) -> Result<usize, NoMemory>
+    /// Makes a page with the words of the image.
+    fn add_page(&mut self, page: usize) -> Result<(), NoMemory>
         requires in_memory { page < 2 ^ 26 }
         requires absent { page_number self.old.directory.entries.items page ≡ 0 }
         ensures image { self.new.image ≡ self.old.image }
-        ensures made { IfOk result (λ index. page_number self.new.directory.entries.items page ≡ index + 1) }
+        ensures made { OnOk result (0 < page_number self.new.directory.entries.items page) }
+        ensures kept { (p : ℕ) → p < 2 ^ 26 → 0 < page_number self.old.directory.entries.items p → 0 < page_number self.new.directory.entries.items p }
         ensures same { (w : ℕ) → w < REGISTER_CELLS → stored_word self.new w ≡ stored_word self.old w }
     {
         self.directory.reserve(page)?;
-        let index = self.pages.len();
-        let Ok(number) = u32::try_from(index + 1) else {
+        let Ok(number) = u32::try_from(self.pages.len() + 1) else {
             return Err(NoMemory);
         };
         self.pages.push(first_page(&self.image, page))?;
         self.directory.enter(page, number);
-        Ok(index)
+        Ok(())
     }
 
     /// The words that were used, by rising number.

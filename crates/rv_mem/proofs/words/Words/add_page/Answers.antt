@@ -18,6 +18,6 @@ returns-in_err-push-clause-same c = λ w within.
 pub returns-clause-same : goal.returns-clause-same
 returns-clause-same c = λ w within.
     let told = c.in-Ok.ensures in
-    let number : page_number c.enter.new.self.entries.items c.args.page ≡ length c.args.self.now.pages.items + 1 = omega (arith, told, c.enter.ensures.entered, c.len-index.ensures) in
+    let number : page_number c.enter.new.self.entries.items c.args.page ≡ length c.args.self.now.pages.items + 1 = omega (arith, told, c.enter.ensures.entered, c.len.ensures) in
     ap (λ pages. paged_word c.args.self.now.image c.enter.new.self.entries.items pages w) c.in_ok-push.ensures.items
     ∙ word-added _ _ _ _ _ _ c.args.self.now.sound c.requires.absent number (λ q low other. c.enter.ensures.others q low other ∙ c.reserve.ensures.same q low) c.first_page.ensures w within
