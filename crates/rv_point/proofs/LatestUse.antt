@@ -91,7 +91,7 @@ last_use-le ts c t = elim (latest ts c t).some [ inl none ↦ omega (arith, none
 -- ---- the uses of some cells alone
 
 module _ (p : ℕ → Bool) where
-  abbrev of_cells : List Tuple → List Tuple
+  abbrev pub of_cells : List Tuple → List Tuple
   of_cells ts = filter (λ t. p t.cell) ts
 
   pub in-kept : (w : Tuple) (ts : List Tuple) → In w ts → p w.cell ≡ true → In w (of_cells ts)

@@ -12,3 +12,6 @@ mod CourseLaws
 mod Collected
 mod StartLaws
 mod WalkLaws
+mod Puts
+mod ReplayLaws
+pub mod Lemmas

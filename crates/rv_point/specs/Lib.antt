@@ -6,3 +6,4 @@ pub mod Walk
 pub mod WalkView
 pub mod PointsState
 pub mod PointsView
+pub mod Replays

@@ -1,5 +1,6 @@
 //! Laws of runs in shards. They compute nothing: each contract is a law.
 
+ghost use Rattle.rv_point.specs.Replays.{ReplaysBegin, ReplaysStep};
 ghost use Rattle.rv_point.specs.SameSteps.{SharedStepsAreSame};
 ghost use Rattle.rv_point.specs.Start.{PiecesAreShards, RecordIsPieces};
 
@@ -15,4 +16,11 @@ pub fn pieces()
 /// of one of them uses, make the same step.
 pub fn shared_steps()
     ensures { SharedStepsAreSame }
+{}
+
+/// A hart that goes on from the cells of a shard's start stands for a state like the run's in the cells
+/// that the shard's rows use, and so does it after each step. So each of its rows is the run's.
+pub fn replays()
+    ensures begin { ReplaysBegin }
+    ensures step { ReplaysStep }
 {}
