@@ -4,10 +4,14 @@ use Rattle.std.specs.Int.{IsInRange, div_ceil}
 use Rattle.rv_base.specs.declared.limits.TheConstants.{BUDGET_LIMIT, SHARD_SIZE_LIMIT, SHARDS_LIMIT}
 use Rattle.rv_base.specs.declared.record.End.{End}
 use Rattle.rv_base.specs.declared.record.TableEntry.{TableEntry}
+use Rattle.rv_spec.specs.Words.{AreBytes}
 use Rattle.rv_spec.specs.Elf.{Image}
 use Rattle.rv_spec.specs.Step.{start}
 use Rattle.rv_spec.specs.Run.{run, EndsIn}
 use Rattle.rv_spec.specs.Trace.{history, table}
+use Rattle.rv_rules.specs.Agreement.{IsProgram}
+use Rattle.rv_mem.specs.Contents.{IsTable}
+use Rattle.rv_isa.proofs.Lemmas.{touched-table}
 use Rattle.rv_isa.specs.HartState.{HartState, StandsFor, IsTimed}
 use Rattle.rv_point.specs.declared.course.Course.{Course}
 use Rattle.rv_point.specs.declared.fault.RunFault.{RunFault}
@@ -18,14 +22,16 @@ use Rattle.rv_point.specs.Walk.{HasGivenAll, IsWhole}
 use Rattle.rv_point.specs.WalkState.{WalkState}
 use Rattle.rv_point.specs.WalkView.{walk_view, IsWalk}
 
-pub walk-opened : (w : Inside) (i : Image) → w.course.hart.cells.image ≡ i → StandsFor w.course.hart (start i) → IsTimed w.course.hart [] 0 → w.course.output.items ≡ [] → w.course.steps ≡ 0 → w.course.ended ≡ None → w.given ≡ 0 → w.fault ≡ None
+pub walk-opened : (w : Inside) (i : Image) → IsProgram i → AreBytes w.course.hart.input → w.course.hart.cells.image ≡ i → StandsFor w.course.hart (start i) → IsTimed w.course.hart [] 0 → w.course.output.items ≡ [] → w.course.steps ≡ 0 → w.course.ended ≡ None → w.given ≡ 0 → w.fault ≡ None
     → IsInRange 1 SHARD_SIZE_LIMIT w.size → IsInRange 1 BUDGET_LIMIT w.budget → IsWalk w
 unfolding run history
-walk-opened w i image stands timed output steps going given fault size budget =
+walk-opened w i program bytes image stands timed output steps going given fault size budget =
     let h : HartState = w.course.hart in
     let begin : StandsFor h (start h.cells.image) = subst (λ (a : Image). StandsFor h (start a)) (sym image) stands in
     let none : w.given * w.size ≡ 0 = ap (λ g. g * w.size) given ∙ (let zero : 0 * w.size ≡ 0 = omega arith in zero) in
     record {
+      program = subst IsProgram (sym image) program;
+      bytes = bytes;
       few = omega (arith, given);
       begun = λ e. record {
         at = record {
@@ -54,7 +60,7 @@ walk-given w e h none some =
 
 -- the whole of the run
 pub whole-is : (w : Inside) (e : End) (o : Whole) → IsWalk w → w.fault ≡ None → w.course.ended ≡ Some e → o.steps ≡ w.course.steps → o.shards ≡ w.given → o.end ≡ e → o.consumed ≡ w.course.hart.position
-    → o.output ≡ w.course.output.items → o.table ≡ table w.course.hart.cells.image w.course.hart.input w.course.steps → IsWhole (walk_view w) o
+    → o.output ≡ w.course.output.items → IsTable w.course.hart.cells o.table → IsWhole (walk_view w) o
 whole-is w e o h none some steps shards end consumed output listed =
     let b : IsBegun w.course w.size w.budget w.given = h.begun none in
     let i : Image = w.course.hart.cells.image in
@@ -66,5 +72,5 @@ whole-is w e o h none some steps shards end consumed output listed =
       few = omega (arith, shards, h.few);
       consumed = consumed ∙ b.at.after.stands.position ∙ ap (λ n. (run i input n).position) (sym steps);
       output = output ∙ b.at.after.put ∙ ap (λ n. (run i input n).output) (sym steps);
-      table = listed ∙ ap (table i input) (sym steps);
+      table = touched-table i input w.course.steps w.course.hart o.table h.program h.bytes b.at.after.stands b.at.after.timed listed ∙ ap (table i input) (sym steps);
     }

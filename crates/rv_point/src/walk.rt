@@ -66,10 +66,11 @@ impl<'a> Walk<'a> {
         requires budget { IsInRange 1 BUDGET_LIMIT budget }
         ensures { result ≡ record { image = image.now; input = input.now; size = size; budget = budget; given = 0; ended = None; fault = None } }
     {
+        let image = image.copy();
         Walk {
             alloc,
             course: Course {
-                hart: Hart::start(alloc, image, input),
+                hart: Hart::start(alloc, &image, input),
                 output: Vec::new(alloc),
                 steps: 0,
                 ended: None,
