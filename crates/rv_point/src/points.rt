@@ -1,11 +1,11 @@
 //! A run that was gone through, with the start of each of its shards.
 
-ghost use Rattle.std.specs.Prelude.{◌≡◌, ℕ, ◌<◌, ◌≤◌, IfOk, IfErr, MatchOption};
+ghost use Rattle.std.specs.Prelude.{◌≡◌, ℕ, ◌<◌, ◌≤◌, IfOk, IfErr, IfSome, MatchOption};
 ghost use Rattle.std.specs.Int.{IsInRange, div_ceil};
 ghost use Rattle.rv_base.specs.declared.limits.TheConstants.{BUDGET_LIMIT, SHARD_SIZE_LIMIT, SHARDS_LIMIT};
 ghost use Rattle.rv_spec.specs.Run.{run, EndsIn};
 ghost use Rattle.rv_spec.specs.Trace.{table as table_after};
-ghost use Rattle.rv_point.specs.Start.{shard_start as start_of};
+ghost use Rattle.rv_point.specs.Start.{IsStart, shard_start as start_of};
 ghost use Rattle.rv_point.specs.PointsState.{IsSurvey, HasNoSurvey};
 
 use crate::fault::RunFault;
@@ -137,7 +137,8 @@ impl<'a> Points<'a> {
 
     /// The start of a shard; None exactly where the run has no shard of that index.
     pub fn shard_start(&self, i: u32) -> Option<&ShardStart>
-        ensures { MatchOption result (div_ceil self.now.steps self.now.size ≤ i) (λ s. (i < div_ceil self.now.steps self.now.size) × (s.now ≡ start_of self.now.image self.now.input self.now.size i)) }
+        ensures start { MatchOption result (div_ceil self.now.steps self.now.size ≤ i) (λ s. (i < div_ceil self.now.steps self.now.size) × (s.now ≡ start_of self.now.image self.now.input self.now.size i)) }
+        ensures replayed { IfSome result (λ s. IsStart self.now.image self.now.input s.now) }
     {
         self.starts.get(i as usize)
     }
