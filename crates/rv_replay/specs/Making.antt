@@ -9,6 +9,8 @@ use Rattle.rv_spec.specs.Digest.{Lanes}
 use Rattle.rv_spec.specs.Trace.{rows}
 use Rattle.rv_spec.specs.Tuples.{events, tuple_read, tuple_written}
 use Rattle.rv_spec.specs.Record.{row_bytes, place_at}
+use Rattle.rv_spec.specs.Words.{AreBytes}
+use Rattle.rv_rules.specs.Agreement.{IsProgram}
 use Rattle.rv_pairs.specs.Covers.{Covers}
 use Rattle.rv_point.specs.declared.start.ShardStart.{ShardStart}
 use Rattle.rv_point.specs.Replays.{IsReplaying}
@@ -30,3 +32,12 @@ pub record IsStartOf (i : Image) (input : List ℕ) (s : ShardStart) : Type 0 wh
   pub number : s.step + s.rows ≤ 2 ^ 32
   pub place_is : s.place ≡ place_at i input s.step
   pub output : length (run i input s.step).output ≤ 4 * s.step
+
+-- a shard that is begun, for any lanes
+pub record IsBegun (i : Image) (input : List ℕ) (s : ShardStart) (made : Making) : Type 0 where
+  pub program : IsProgram i
+  pub input_bytes : AreBytes input
+  pub start : IsStartOf i input s
+  pub image : made.hart.cells.image ≡ i
+  pub input_is : made.hart.input ≡ input
+  pub none_made : (lanes : Lanes) → HasMade lanes i input s.step s.rows 0 made

@@ -1,9 +1,9 @@
 //! The replay of a shard from its start: its piece of the record.
 #![tactic(auto)]
 
-mod replay;
 mod rows;
+mod shard;
 mod task;
 
-pub use replay::{replay, replay_start};
+pub use shard::{replay, replay_start};
 pub use task::ShardTask;

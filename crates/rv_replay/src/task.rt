@@ -2,7 +2,7 @@
 
 ghost use Rattle.std.specs.Prelude.{◌≡◌};
 
-use crate::replay::replay;
+use crate::shard::replay;
 use rv_base::NoMemory;
 use rv_book::{Piece, Task};
 use rv_digest::Lanes;

@@ -2,20 +2,17 @@
 
 ghost use Rattle.std.specs.Prelude.{◌≡◌, ◌+◌, ◌*◌, ◌^◌, ◌<◌, ◌≤◌, ◌++◌, ℕ, drop, length, IfOk};
 ghost use Rattle.std.specs.Int.{div_ceil};
-ghost use Rattle.rv_base.specs.declared.limits.TheConstants.{SHARD_SIZE_LIMIT};
-ghost use Rattle.rv_spec.specs.Words.{AreBytes};
-ghost use Rattle.rv_spec.specs.Digest.{Lanes as LanesOf};
-ghost use Rattle.rv_spec.specs.Record.{place_at};
-ghost use Rattle.rv_rules.specs.Agreement.{IsProgram};
+ghost use Rattle.rv_spec.specs.Digest.{set_digest_bytes};
+ghost use Rattle.rv_spec.specs.Record.{head_bytes};
 ghost use Rattle.rv_point.specs.Start.{IsStart, piece, shard_start};
-ghost use Rattle.rv_replay.specs.Making.{HasMade, IsStartOf};
+ghost use Rattle.rv_replay.specs.Making.{HasMade, IsBegun, IsStartOf};
 ghost use Rattle.rv_replay.specs.Piece.{piece_of, piece_view, shard_piece};
 
 use crate::rows::Making;
 use rv_base::layout::HEAD_BYTES;
 use rv_base::{Bytes, NoMemory, Place};
 use rv_book::Piece;
-use rv_digest::Lanes;
+use rv_digest::{Lanes, SetDigest};
 use rv_elf::Image;
 use rv_file::{ShardHead, write_head};
 use rv_isa::Hart;
@@ -49,12 +46,7 @@ fn begin<'a>(
     start: &ShardStart,
 ) -> Result<Making<'a>, NoMemory>
     requires { IsStart image.now input.now start.now }
-    ensures program { IsProgram image.now }
-    ensures bytes { AreBytes input.now }
-    ensures start { IsStartOf image.now input.now start.now }
-    ensures image { IfOk result (λ m. m.hart.cells.image ≡ image.now) }
-    ensures input { IfOk result (λ m. m.hart.input ≡ input.now) }
-    ensures made { IfOk result (λ m. (lanes : LanesOf) → HasMade lanes image.now input.now start.now.step start.now.rows 0 m) }
+    ensures { IfOk result (IsBegun image.now input.now start.now) }
 {
     let image = image.copy();
     let hart = Hart::resume(alloc, &image, input, start.place, start.cells.list())?;
@@ -79,31 +71,45 @@ fn finish<L: Lanes>(
     requires made { HasMade L.lanes making.hart.cells.image making.hart.input start.now.step start.now.rows start.now.rows making }
     ensures { IfOk result (λ p. p ≡ piece_of L.lanes making.entry.hart.cells.image making.entry.hart.input start.now.index start.now.step start.now.rows) }
 {
-    let head = write_head(&ShardHead {
+    let head = ShardHead {
         index: start.index,
         rows: start.rows,
         pc: start.place.pc,
         input: start.place.input,
         output: start.place.output,
         bytes: (making.bytes.len() - HEAD_BYTES) as u32,
-    });
+    };
+    let place = Place {
+        pc: making.hart.pc(),
+        input: making.hart.position(),
+        output: start.place.output + making.put,
+    };
     let (reads, writes) = making.pairing.take(lanes);
-    let mut bytes = making.bytes;
-    set_head(bytes.as_mut_slice(), &head);
-    bytes.extend_from_slice(&reads.to_bytes())?;
-    bytes.extend_from_slice(&writes.to_bytes())?;
+    let bytes = spell(making.bytes, &head, &reads, &writes)?;
     Ok(Piece {
         index: start.index,
         bytes: Bytes::of(bytes),
         reads,
         writes,
-        place: Place {
-            pc: making.hart.pc(),
-            input: making.hart.position(),
-            output: start.place.output + making.put,
-        },
+        place,
         fault: None,
     })
+}
+
+/// The bytes of a shard, from those of its rows, before which there is room for the head.
+fn spell(
+    mut bytes: Vec<u8>,
+    head: &ShardHead,
+    reads: &SetDigest,
+    writes: &SetDigest,
+) -> Result<Vec<u8>, NoMemory>
+    requires { HEAD_BYTES ≤ length bytes.items }
+    ensures { IfOk result (λ b. b.items ≡ head_bytes head.now ++ drop HEAD_BYTES bytes.items ++ set_digest_bytes reads.now.lanes ++ set_digest_bytes writes.now.lanes) }
+{
+    set_head(&mut bytes, &write_head(head));
+    bytes.extend_from_slice(&reads.to_bytes())?;
+    bytes.extend_from_slice(&writes.to_bytes())?;
+    Ok(bytes)
 }
 
 /// Writes a head into its place.
