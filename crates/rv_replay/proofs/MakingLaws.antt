@@ -177,3 +177,12 @@ module _ (lanes : Lanes) (i : Image) (input : List ℕ) (s : ShardStart) (of : I
       let spelled : bytes ≡ shard_bytes (shard_of lanes i input s.index s.step s.rows) =
       is ∙ (λ t. head_bytes (record { index = s.index; rows = s.rows; pc = (of.place_is t).pc; input = (of.place_is t).input; output = (of.place_is t).output; bytes = bytes-count t }) ++ bytes-behind t ++ set_digest_bytes (read t) ++ set_digest_bytes (written t)) in
       λ t. record { index = s.index; bytes = spelled t; reads = record { lanes = read t }; writes = record { lanes = written t }; place = place-after place at t; fault = None }
+
+-- ---- the same, of the hart's own program and input
+
+pub own-made : (lanes : Lanes) (i : Image) (input : List ℕ) (k n m : ℕ) (made : Making) → made.hart.cells.image ≡ i → made.hart.input ≡ input → HasMade lanes i input k n m made → HasMade lanes made.hart.cells.image made.hart.input k n m made
+own-made lanes i input k n m made image same h =
+    subst (λ (a : Image). HasMade lanes a made.hart.input k n m made) (sym image) (subst (λ (b : List ℕ). HasMade lanes i b k n m made) (sym same) h)
+
+pub own-start : (i : Image) (input : List ℕ) (s : ShardStart) (made : Making) → made.hart.cells.image ≡ i → made.hart.input ≡ input → IsStartOf i input s → IsStartOf made.hart.cells.image made.hart.input s
+own-start i input s made image same h = subst (λ (a : Image). IsStartOf a made.hart.input s) (sym image) (subst (λ (b : List ℕ). IsStartOf i b s) (sym same) h)
