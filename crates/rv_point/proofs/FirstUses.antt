@@ -72,22 +72,22 @@ module _ (hist : List Tuple) (start : ℕ) (before : ℕ → ℕ) (early : (w : 
   tells-first new e l is = elim (used-or-not e.cell new) [
     | inr none ↦ none
     | inl u ↦ absurd (
-    let w : Tuple = u.0 in
-    let low : e.prev ≤ start = leb-true e.prev start is in
-    let times : (start < w.time) × (w.time < e.time) = l.late w u.1 in
-    let high : w.time ≤ last_use (hist ++ new) e.cell e.time = (latest (hist ++ new) e.cell e.time).most w (in-right w hist new u.1) u.2 times.1 in
-    omega (arith, high, times.0, l.prev, low)
-    )
+        let w : Tuple = u.0 in
+        let low : e.prev ≤ start = leb-true e.prev start is in
+        let times : (start < w.time) × (w.time < e.time) = l.late w u.1 in
+        let high : w.time ≤ last_use (hist ++ new) e.cell e.time = (latest (hist ++ new) e.cell e.time).most w (in-right w hist new u.1) u.2 times.1 in
+        omega (arith, high, times.0, l.prev, low)
+        )
   ]
 
   tells-later : (new : List Tuple) (e : Event) → Link new e → is_first start e ≡ false → Used e.cell new
   tells-later new e l is = elim (used-or-not e.cell new) [
     | inl u ↦ u
     | inr none ↦ absurd (
-    let high : start < e.prev = leb-false e.prev start is in
-    let same : e.prev ≡ last_use hist e.cell start = (first-finds new e l none).0 in
-    omega (arith, high, same, last_use-le hist e.cell start)
-    )
+        let high : start < e.prev = leb-false e.prev start is in
+        let same : e.prev ≡ last_use hist e.cell start = (first-finds new e l none).0 in
+        omega (arith, high, same, last_use-le hist e.cell start)
+        )
   ]
 
   -- ---- the entries of the first accesses

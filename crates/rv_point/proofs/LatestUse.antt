@@ -38,17 +38,16 @@ found (x ∷ xs) c t =
         | inr late ↦ (p, kept (λ cell early. absurd (omega arith)))
         | inl early ↦ elim (cases_lt p x.time) [
           | inr low ↦ (p, kept (λ cell earlier. low))
-          | inl high ↦
-              (
-                x.time,
-                record {
-                  most = λ w m cell before. elim m [
-                    | inl same ↦ omega (arith, ap (λ (z : Tuple). z.time) same)
-                    | inr k ↦ omega (arith, is.most w k cell before)
-                  ];
-                  some = inr (x, inl refl, eqb-true x.cell c e, refl, early);
-                },
-              )
+          | inl high ↦ (
+            x.time,
+            record {
+              most = λ w m cell before. elim m [
+                | inl same ↦ omega (arith, ap (λ (z : Tuple). z.time) same)
+                | inr k ↦ omega (arith, is.most w k cell before)
+              ];
+              some = inr (x, inl refl, eqb-true x.cell c e, refl, early);
+            },
+          )
         ]
       ]
     ] refl

@@ -319,16 +319,15 @@ pub start-known : (i : Image) (input : List ℕ) (program : IsProgram i) (bytes 
 start-known i input program bytes k n =
     let cs : List ℕ = cells_of (rows i input k n) in
     let raw : List ℕ = flat_map (λ r. map (λ a. a.cell) r.accesses) (rows i input k n) in
-    let es : List TableEntry = map (cell_at i input k) cs in
-    (
+    let es : List TableEntry = map (cell_at i input k) cs in (
       subst IsRising (sym (own-cells cs)) (rising-rises raw),
       all-of (IsKnown i) es (λ e m. (
-      let c = in-map-back (cell_at i input k) e cs m in
-      subst (IsKnown i) (sym c.2) (record {
-        cell = use-known i input program bytes k n c.0 c.1;
-        unused = λ none. holds-last-uses i input k c.0 ∙ ap (λ t. cond (t == 0) (initial_value i c.0) (left_at (history i input k) c.0 t)) none;
-      })
-      )),
+          let c = in-map-back (cell_at i input k) e cs m in
+          subst (IsKnown i) (sym c.2) (record {
+            cell = use-known i input program bytes k n c.0 c.1;
+            unused = λ none. holds-last-uses i input k c.0 ∙ ap (λ t. cond (t == 0) (initial_value i c.0) (left_at (history i input k) c.0 t)) none;
+          })
+          )),
     )
   where
     own-cells : (cs : List ℕ) → map (λ e. e.cell) (map (cell_at i input k) cs) ≡ cs

@@ -132,16 +132,15 @@ module _ (i : Image) (input : List ℕ) where
             after = omega arith;
             late = λ w m. ((times w m).0, (let less : w.time < time_of j lo = (times w m).1 in omega arith));
             held = λ none. held u.cell none;
-          } in
-          (
+          } in (
             link,
             row-chained (done ++ x ∷ []) (u.slot + 1) us (omega arith) r.1
-            (is ∙ sym (append_assoc (hist ++ done) (x ∷ []) (tuples_left j (map (visit s t) us))) ∙ ap (λ (ts : List Tuple). ts ++ tuples_left j (map (visit s t) us)) (append_assoc hist done (x ∷ [])))
-            (λ w m. elim (in-append w done (x ∷ []) m) [
-              | inl old ↦ ((times w old).0, (let less : w.time < time_of j lo = (times w old).1 in omega arith))
-              | inr own ↦ elim own [ inl same ↦ (let time : w.time ≡ time_of j u.slot = ap (λ (z : Tuple). z.time) same in (omega arith, omega arith)) | inr none ↦ absurd none ]
-            ])
-            (λ c none. held c (λ w m. none w (in-left w done (x ∷ []) m))),
+                (is ∙ sym (append_assoc (hist ++ done) (x ∷ []) (tuples_left j (map (visit s t) us))) ∙ ap (λ (ts : List Tuple). ts ++ tuples_left j (map (visit s t) us)) (append_assoc hist done (x ∷ [])))
+                (λ w m. elim (in-append w done (x ∷ []) m) [
+                  | inl old ↦ ((times w old).0, (let less : w.time < time_of j lo = (times w old).1 in omega arith))
+                  | inr own ↦ elim own [ inl same ↦ (let time : w.time ≡ time_of j u.slot = ap (λ (z : Tuple). z.time) same in (omega arith, omega arith)) | inr none ↦ absurd none ]
+                ])
+                (λ c none. held c (λ w m. none w (in-left w done (x ∷ []) m))),
           )
 
     rows-chained : (n m : ℕ) → Chained (left_from i input k m) (events (k + m) (rows i input (k + m) n))

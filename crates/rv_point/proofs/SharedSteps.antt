@@ -26,10 +26,10 @@ slots-differ : (lo hi : ℕ) (us : List Use) → Rises lo hi us → AllDiffer (m
 slots-differ lo hi [] r = tt
 slots-differ lo hi (u ∷ us) r = (
   all-of (λ y. u.slot ≢ y) (map (λ v. v.slot) us) (λ y m e. (
-  let v = in-map-back (λ v. v.slot) y us m in
-  let above : (u.slot + 1 ≤ v.0.slot) × (v.0.slot < hi) = all-in (λ v. (u.slot + 1 ≤ v.slot) × (v.slot < hi)) us (all-within (u.slot + 1) hi us r.1) v.0 v.1 in
-  absurd (omega (arith, above.0, v.2, e))
-  )),
+      let v = in-map-back (λ v. v.slot) y us m in
+      let above : (u.slot + 1 ≤ v.0.slot) × (v.0.slot < hi) = all-in (λ v. (u.slot + 1 ≤ v.slot) × (v.slot < hi)) us (all-within (u.slot + 1) hi us r.1) v.0 v.1 in
+      absurd (omega (arith, above.0, v.2, e))
+      )),
   slots-differ (u.slot + 1) hi us r.1,
 )
 

@@ -60,22 +60,21 @@ all-at P (x ∷ xs) h = (h 0 x (omega arith), all-at P xs (λ j d less. h (suc j
 sorted-rises : (xs : List TableEntry) → IsNonDecreasingBy (λ (x : TableEntry). x.cell) xs → ((c : ℕ) → times c xs ≤ 1) → IsRising (cells xs)
 sorted-rises [] up few = tt
 sorted-rises (x ∷ xs) up few =
-    let low : AllByRecursion (λ (y : TableEntry). x.cell ≤ y.cell) xs = all-at (λ (y : TableEntry). x.cell ≤ y.cell) xs (λ j d less. up 0 (suc j) d (omega arith) (omega arith)) in
-    (
+    let low : AllByRecursion (λ (y : TableEntry). x.cell ≤ y.cell) xs = all-at (λ (y : TableEntry). x.cell ≤ y.cell) xs (λ j d less. up 0 (suc j) d (omega arith) (omega arith)) in (
       all-of (λ c. x.cell < c) (cells xs) (λ c m. (
-      let r = in-map-back (λ (y : TableEntry). y.cell) c xs m in
-      let le : x.cell ≤ r.0.cell = all-in (λ (y : TableEntry). x.cell ≤ y.cell) xs low r.0 r.1 in
-      elim (x.cell == c) as (λ b. (x.cell == c) ≡ b → x.cell < c) [
-        | true ↦ λ e. absurd (
-        let there : 1 ≤ times c xs = some-times c xs m in
-        let twice : cond true 1 0 + times c xs ≤ 1 = subst (λ b. cond b 1 0 + times c xs ≤ 1) e (few c) in
-        omega arith
-        )
-        | false ↦ λ e. (let other : x.cell ≢ c = eqb-false x.cell c e in omega (arith, r.2))
-      ] refl
-      )),
+          let r = in-map-back (λ (y : TableEntry). y.cell) c xs m in
+          let le : x.cell ≤ r.0.cell = all-in (λ (y : TableEntry). x.cell ≤ y.cell) xs low r.0 r.1 in
+          elim (x.cell == c) as (λ b. (x.cell == c) ≡ b → x.cell < c) [
+            | true ↦ λ e. absurd (
+                let there : 1 ≤ times c xs = some-times c xs m in
+                let twice : cond true 1 0 + times c xs ≤ 1 = subst (λ b. cond b 1 0 + times c xs ≤ 1) e (few c) in
+                omega arith
+                )
+            | false ↦ λ e. (let other : x.cell ≢ c = eqb-false x.cell c e in omega (arith, r.2))
+          ] refl
+          )),
       sorted-rises xs (λ a b d le less. up (suc a) (suc b) d (omega arith) (omega arith))
-      (λ c. (let most : cond (x.cell == c) 1 0 + times c xs ≤ 1 = few c in omega arith)),
+          (λ c. (let most : cond (x.cell == c) 1 0 + times c xs ≤ 1 = few c in omega arith)),
     )
 
 -- ---- rising lists with the same members are equal

@@ -195,16 +195,16 @@ module _ (old new : Course) (size budget given : ℕ) (cells : List TableEntry) 
     budget_within = begun.budget_within;
     within = omega (arith, t.steps, steps-within i input most k, begun.within);
     whole = λ none. (
-    let all : new.steps ≡ k + most = t.whole none in
-    let large : size ≤ new.steps - k = enough none in
-    let next : (given + 1) * size ≡ given * size + size = omega arith in
-    omega (arith, first)
-    );
+        let all : new.steps ≡ k + most = t.whole none in
+        let large : size ≤ new.steps - k = enough none in
+        let next : (given + 1) * size ≡ given * size + size = omega arith in
+        omega (arith, first)
+        );
     all = λ e is. (
-    let ends : EndsIn i input new.steps e = ends-here old new t.same new.steps e (t.at.done e is) in
-    let later : k < new.steps = ends-later i input k new.steps e go ends in
-    ceiling-is new.steps size given r some (omega (arith, t.steps, first)) (omega (arith, t.steps)) rows-within.1
-    );
+        let ends : EndsIn i input new.steps e = ends-here old new t.same new.steps e (t.at.done e is) in
+        let later : k < new.steps = ends-later i input k new.steps e go ends in
+        ceiling-is new.steps size given r some (omega (arith, t.steps, first)) (omega (arith, t.steps)) rows-within.1
+        );
   }
 
 -- ---- after the most shards

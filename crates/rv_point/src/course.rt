@@ -49,8 +49,7 @@ impl Course<'_> {
     {
         let taken = self.hart.step(self.steps)?;
         let bytes = taken.word.to_le_bytes();
-        self.output
-            .extend_from_slice(&bytes[..taken.put as usize])?;
+        self.output.extend_from_slice(&bytes[..taken.put as usize])?;
         self.steps += 1;
         self.ended = taken.end;
         Ok(taken.row)

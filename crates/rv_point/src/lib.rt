@@ -6,6 +6,8 @@ mod fault;
 pub mod laws;
 mod points;
 mod start;
+#[cfg(test)]
+mod tests;
 mod walk;
 
 pub use fault::RunFault;

@@ -26,12 +26,7 @@ pub(crate) struct Making<'a> {
 
 impl Making<'_> {
     /// Takes steps from a number on, and appends their rows.
-    pub fn make_rows<L: Lanes>(
-        &mut self,
-        lanes: &L,
-        first: u64,
-        count: u32,
-    ) -> Result<(), NoMemory>
+    pub fn make_rows<L: Lanes>(&mut self, lanes: &L, first: u64, count: u32) -> Result<(), NoMemory>
         requires program { IsProgram self.old.hart.cells.image }
         requires bytes { AreBytes self.old.hart.input }
         requires number { first + count ≤ 2 ^ 32 }

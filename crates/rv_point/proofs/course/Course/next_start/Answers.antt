@@ -33,8 +33,7 @@ returns-clause-ok c =
     let enough : new.ended ≡ None → c.args.size ≤ new.steps - old.steps = λ none. elim c.else-is_none.branch [
       | else-is_none-via-then-is_none+else-rows-size w ↦ omega (arith, w.if-rows-size.false)
       | else-is_none-via-else-is_none w ↦ absurd (let some = some-of new.ended (sym w.if-is_none.ensures) in let is = some.1 in let no : ⊥ = cc in no)
-    ] in
-    (
+    ] in (
       start-is old new c.args.size c.args.budget c.args.given c.in_ok-cells.cells c.requires.begun c.requires.going c.requires.few taken _ c.place-place.result refl (place-is old c.requires.begun.at.after c.place-place.result c.place-place.ensures) enough,
       begun-next old new c.args.size c.args.budget c.args.given c.in_ok-cells.cells c.requires.begun c.requires.going c.requires.few taken enough,
     )

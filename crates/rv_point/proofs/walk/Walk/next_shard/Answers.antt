@@ -20,8 +20,7 @@ next_shard-requires-clause-begun c = c.self.invariant.begun c.in_default.is
 pub returns-in-Ok-None-clause-ok : goal.returns-in-Ok-None-clause-ok
 returns-in-Ok-None-clause-ok c =
     let w = c.self.inside in
-    let gives : GivesShard w.course c.next_shard.new.self w.size w.budget w.given None = subst (λ o. GivesShard w.course c.next_shard.new.self w.size w.budget w.given o) c.in-Ok-None.field-0-is c.in-Ok-None.ensures.ok in
-    (
+    let gives : GivesShard w.course c.next_shard.new.self w.size w.budget w.given None = subst (λ o. GivesShard w.course c.next_shard.new.self w.size w.budget w.given o) c.in-Ok-None.field-0-is c.in-Ok-None.ensures.ok in (
       subst (λ (v : WalkState). HasGivenAll v) c.self.view_is (walk-given w gives.1 c.self.invariant c.in_default.is gives.2),
       ap (λ (course : Course). walk_view (record w { course = course })) gives.0 ∙ c.self.view_is,
     )
