@@ -4,6 +4,8 @@
 mod rows;
 mod shard;
 mod task;
+#[cfg(test)]
+mod tests;
 
 pub use shard::{replay, replay_start};
 pub use task::ShardTask;
