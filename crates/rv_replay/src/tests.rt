@@ -71,7 +71,14 @@ fn worked_shard(rt: HostRuntime) -> Result<(), Fail> {
             assert!(&rt; piece.bytes.list() == bytes.as_slice());
             assert_eq!(&rt; piece.reads, SetDigest { lanes: [0; 16] });
             assert_eq!(&rt; piece.writes, SetDigest { lanes: [0; 16] });
-            assert_eq!(&rt; piece.place, Place { pc: 0x10008, input: 0, output: 0 });
+            assert_eq!(&rt;
+                piece.place,
+                Place {
+                    pc: 0x10008,
+                    input: 0,
+                    output: 0
+                }
+            );
             assert!(&rt; piece.fault.is_none());
         }
     }
