@@ -1,18 +1,16 @@
 -- What the first uses of a shard's cells find, sorted, is the start's cells.
-use Rattle.std.proofs.Common.{◌≡◌, ◌⊎◌, ℕ, List, [], map, sym, ap, subst, inl, inr}
+use Rattle.std.proofs.Common.{◌≡◌, ℕ, List, map, sym, subst, inl, inr}
 use Rattle.std.specs.List.{flat_map}
 use Rattle.std.specs.List.Sorted.{IsPermutation, IsNonDecreasingBy}
 use Rattle.rv_base.specs.declared.record.TableEntry.{TableEntry}
 use Rattle.rv_spec.specs.Elf.{Image}
 use Rattle.rv_spec.specs.Cells.{time_of}
 use Rattle.rv_spec.specs.Trace.{Row, rising, rows}
-use Rattle.rv_spec.specs.Tuples.{events}
 use Rattle.rv_rules.specs.Membership.{In}
 use Rattle.rv_rules.proofs.Lemmas.{rising-in, in-rising, rising-rises}
 use Rattle.rv_point.specs.Start.{cell_at, cells_of}
 use Rattle.rv_point.specs.Course.{all_first_finds}
-use Rattle.rv_point.proofs.FirstUses.{AreFirsts}
-use Rattle.rv_point.proofs.RunFirsts.{hist, start, before, early, events-cells, rows-firsts}
+use Rattle.rv_point.proofs.RunFirsts.{events-cells, rows-firsts}
 use Rattle.rv_point.proofs.SortedEntries.{cells, sorted-are}
 
 pub collected-are : (i : Image) (input : List ℕ) (k n : ℕ) (found : List TableEntry) → IsPermutation (all_first_finds (time_of k 0) (rows i input k n)) found → IsNonDecreasingBy (λ (x : TableEntry). x.cell) found

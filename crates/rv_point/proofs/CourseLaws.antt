@@ -1,5 +1,5 @@
 -- The course of a run, step by step.
-use Rattle.std.proofs.Common.{◌≡◌, ◌⊎◌, ℕ, zero, suc, ◌+◌, ◌-◌, ◌<◌, ◌≤◌, List, [], ◌∷◌, ◌++◌, map, take, true, false, Option, Some, None, is_some, refl, sym, ◌∙◌, ap, subst, inl, inr, arith, append-nil, append_assoc}
+use Rattle.std.proofs.Common.{◌≡◌, ℕ, zero, suc, ◌+◌, ◌-◌, ◌<◌, ◌≤◌, List, [], ◌∷◌, ◌++◌, map, take, true, false, Option, Some, None, is_some, refl, sym, ◌∙◌, ap, subst, inl, inr, arith, append-nil, append_assoc}
 use Rattle.std.specs.Int.{w32, to_le_bytes}
 use Rattle.std.specs.List.{range_with_len, flat_map}
 use Rattle.std.proofs.lemmas.List.{map-append}
@@ -7,20 +7,18 @@ use Rattle.std.proofs.lemmas.List.Concat.{flat_map-append}
 use Rattle.std.proofs.lemmas.Bool.{cases_lt}
 use Rattle.rv_base.specs.declared.record.End.{End}
 use Rattle.rv_base.specs.declared.record.TableEntry.{TableEntry}
-use Rattle.rv_base.specs.declared.record.Tuple.{Tuple}
 use Rattle.rv_spec.specs.Elf.{Image}
-use Rattle.rv_spec.specs.Step.{State, step}
-use Rattle.rv_spec.specs.Run.{run, next_state, end_at, GoesOn, EndsIn}
+use Rattle.rv_spec.specs.Run.{run, end_at, GoesOn, EndsIn}
 use Rattle.rv_spec.specs.Cells.{time_of}
 use Rattle.rv_spec.specs.Trace.{Row as Traced, history, row, rows}
 use Rattle.rv_row.specs.declared.rows.Row.{Row}
 use Rattle.rv_row.specs.RowReading.{row_view}
 use Rattle.rv_isa.specs.declared.hart.Stepped.{Stepped}
-use Rattle.rv_isa.specs.HartState.{HartState, StandsFor, IsTimed}
+use Rattle.rv_isa.specs.HartState.{StandsFor, IsTimed}
 use Rattle.rv_isa.specs.Hart.{TakesStepFrom, TakesTimes}
 use Rattle.rv_point.specs.declared.course.Course.{Course}
 use Rattle.rv_point.specs.Start.{one_more, steps_from}
-use Rattle.rv_point.specs.Course.{IsAfter, IsAt, IsSameRun, TakesRow, TakesRows, SkipsSteps, first_finds, all_first_finds}
+use Rattle.rv_point.specs.Course.{IsAt, IsSameRun, TakesRow, TakesRows, SkipsSteps, first_finds, all_first_finds}
 
 -- `suc` is how runs count, and `+ 1` how code does
 next-number : (k : ℕ) → suc k ≡ k + 1

@@ -8,8 +8,8 @@ use Rattle.rv_spec.specs.Trace.{last_use}
 use Rattle.rv_spec.specs.Tuples.{Event, tuple_written}
 use Rattle.rv_rules.specs.Chain.{AllDiffer}
 use Rattle.rv_rules.specs.Membership.{In}
-use Rattle.rv_rules.proofs.Lemmas.{in-append, in-left, in-right, in-map, in-map-back, all-in, all-of}
-use Rattle.rv_point.proofs.LatestUse.{IsLatest, latest, last_use-unused, last_use-le}
+use Rattle.rv_rules.proofs.Lemmas.{in-append, in-left, in-right, all-in, all-of}
+use Rattle.rv_point.proofs.LatestUse.{latest, last_use-unused, last_use-le}
 
 -- what an access finds, as an entry
 abbrev pub found_by : Event → TableEntry

@@ -4,7 +4,7 @@ use Rattle.std.proofs.lemmas.Bool.{eqb-true, eqb-false, cases_lt}
 use Rattle.rv_base.specs.declared.record.Tuple.{Tuple}
 use Rattle.rv_spec.specs.Trace.{last_use}
 use Rattle.rv_rules.specs.Membership.{In}
-use Rattle.rv_rules.proofs.Lemmas.{last_use-is, in-append, in-left, in-right}
+use Rattle.rv_rules.proofs.Lemmas.{last_use-is, in-append, in-left}
 
 -- the time of a use of the cell, or 0
 abbrev pub IsUse : List Tuple → ℕ → ℕ → ℕ → Type 0

@@ -1,14 +1,14 @@
 -- What some steps of a run leave in cells.
-use Rattle.std.proofs.Common.{◌≡◌, ◌⊎◌, ℕ, zero, suc, ◌+◌, ◌*◌, ◌<◌, ◌≤◌, List, [], ◌∷◌, ◌++◌, map, refl, sym, ◌∙◌, ap, subst, inl, inr, arith, append-nil, append_assoc}
-use Rattle.std.specs.List.{range_with_len, flat_map}
+use Rattle.std.proofs.Common.{◌≡◌, ℕ, zero, suc, ◌+◌, ◌<◌, ◌≤◌, List, [], ◌∷◌, ◌++◌, map, refl, sym, ◌∙◌, ap, subst, inl, inr, arith, append-nil, append_assoc}
+use Rattle.std.specs.List.{flat_map}
 use Rattle.std.proofs.lemmas.List.{map-append}
 use Rattle.rv_base.specs.declared.record.Tuple.{Tuple}
 use Rattle.rv_spec.specs.Elf.{Image}
 use Rattle.rv_spec.specs.Step.{State}
 use Rattle.rv_spec.specs.Run.{run, next_state}
 use Rattle.rv_spec.specs.Cells.{time_of}
-use Rattle.rv_spec.specs.Visits.{Use, Visit, visit, step_uses, visits}
-use Rattle.rv_spec.specs.Trace.{Row, access, tuples_left, history, row, rows}
+use Rattle.rv_spec.specs.Visits.{Visit, visit, step_uses, visits}
+use Rattle.rv_spec.specs.Trace.{access, tuples_left, history, rows}
 use Rattle.rv_rules.specs.Membership.{In}
 use Rattle.rv_rules.proofs.Lemmas.{in-append, in-map-back, all-in}
 use Rattle.rv_isa.proofs.Lemmas.{step-slots-rise, all-within}

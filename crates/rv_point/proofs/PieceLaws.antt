@@ -1,16 +1,15 @@
 -- The pieces of a run that ends are the shards of its record.
-use Rattle.std.proofs.Common.{◌≡◌, ◌⊎◌, ℕ, zero, suc, ◌+◌, ◌-◌, ◌*◌, ◌<◌, ◌≤◌, min, List, [], ◌∷◌, ◌++◌, map, Option, Some, None, refl, sym, ◌∙◌, ap, inl, inr, arith}
+use Rattle.std.proofs.Common.{◌≡◌, ◌⊎◌, ℕ, zero, suc, ◌+◌, ◌-◌, ◌*◌, ◌<◌, ◌≤◌, min, List, ◌++◌, map, Option, refl, sym, ◌∙◌, ap, inl, inr, arith}
 use Rattle.std.specs.List.{range_with_len, flat_map}
-use Rattle.std.specs.Int.{div_ceil, IsInRange}
+use Rattle.std.specs.Int.{div_ceil}
 use Rattle.std.proofs.lemmas.Bool.{cases_lt}
 use Rattle.std.proofs.lemmas.Grind.{div_ceil_times}
-use Rattle.rv_base.specs.declared.limits.TheConstants.{SHARD_SIZE_LIMIT}
 use Rattle.rv_base.specs.declared.record.End.{End}
 use Rattle.rv_spec.specs.Elf.{Image, image}
-use Rattle.rv_spec.specs.Run.{run, end_at, GoesOn, EndsIn}
+use Rattle.rv_spec.specs.Run.{end_at, EndsIn}
 use Rattle.rv_spec.specs.Digest.{Lanes}
-use Rattle.rv_spec.specs.Record.{Shard, Parts, shard_bytes, header_bytes, table_bytes, file_bytes, header, place_at, shard_rows, shard_of, shard, record_parts, record_file}
-use Rattle.rv_point.specs.Start.{one_more, steps_from, HasShard, piece, IsShardOfRecord, PiecesAreShards, RecordIsPieces}
+use Rattle.rv_spec.specs.Record.{Shard, Parts, shard_bytes, header_bytes, table_bytes, file_bytes, place_at, shard_rows, shard_of, shard, record_parts}
+use Rattle.rv_point.specs.Start.{one_more, steps_from, piece, IsShardOfRecord, PiecesAreShards, RecordIsPieces}
 
 -- shard j begins before the last step
 pub begins-within : (n size j : ℕ) → 0 < size → j < div_ceil n size → j * size < n

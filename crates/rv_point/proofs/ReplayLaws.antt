@@ -1,12 +1,11 @@
 -- A replay from the start of some rows makes these rows: what it stands for is the run in the cells that they use.
-use Rattle.std.proofs.Common.{◌≡◌, ◌≢◌, ◌⊎◌, ℕ, zero, suc, ◌+◌, ◌-◌, ◌<◌, ◌≤◌, Bool, true, false, cond, ◌||◌, ◌&&◌, ◌==◌, nat_le, nat_lt, List, [], ◌∷◌, ◌++◌, length, take, min, map, filter, find, option_map, unwrap_or, Option, Some, None, IsTrue, refl, sym, ◌∙◌, ap, subst, inl, inr, arith, append_assoc}
+use Rattle.std.proofs.Common.{◌≡◌, ◌⊎◌, ℕ, zero, suc, ◌+◌, ◌-◌, ◌<◌, ◌≤◌, Bool, true, false, cond, ◌||◌, ◌&&◌, ◌==◌, nat_le, nat_lt, List, [], ◌∷◌, ◌++◌, length, take, min, map, option_map, unwrap_or, Option, Some, None, IsTrue, refl, sym, ◌∙◌, ap, subst, inl, inr, arith, append_assoc}
 use Rattle.std.specs.List.{AllByRecursion, flat_map}
 use Rattle.std.specs.Int.{w32, to_le_bytes}
 use Rattle.std.proofs.lemmas.List.{length-append, length-take}
 use Rattle.std.proofs.lemmas.List.Elements.{filter-append}
 use Rattle.std.proofs.lemmas.Bool.{eqb-true, eqb-false, eq-eqb, leb-true, leb-false, lt-leb}
 use Rattle.rv_base.specs.declared.cells.TheConstants.{REGISTER_CELLS, RESERVATION_CELL}
-use Rattle.rv_base.specs.declared.record.Access.{Access}
 use Rattle.rv_base.specs.declared.record.TableEntry.{TableEntry}
 use Rattle.rv_base.specs.declared.record.Tuple.{Tuple}
 use Rattle.rv_spec.specs.Words.{AreBytes}
@@ -15,20 +14,19 @@ use Rattle.rv_spec.specs.Step.{State}
 use Rattle.rv_spec.specs.Run.{run, next_state}
 use Rattle.rv_spec.specs.Cells.{is_cell, value, initial_value, time_of}
 use Rattle.rv_spec.specs.Visits.{Use, Visit, visit, step_uses, visits}
-use Rattle.rv_spec.specs.Trace.{Row, access, tuples_left, history, last_use, left_at, rising, row, rows}
+use Rattle.rv_spec.specs.Trace.{access, tuples_left, history, last_use, left_at, row, rows}
 use Rattle.rv_rules.specs.Agreement.{IsState, IsProgram}
 use Rattle.rv_spec.specs.Grammar.{IsRising}
 use Rattle.rv_rules.specs.Membership.{In}
 use Rattle.rv_rules.proofs.Lemmas.{in-append, in-left, in-right, in-map, in-map-back, all-in, all-of, rising-in, in-rising, rising-rises}
-use Rattle.rv_mem.specs.Contents.{Contents, value_at, time_at, entry_at}
+use Rattle.rv_mem.specs.Contents.{value_at, time_at, entry_at}
 use Rattle.rv_isa.specs.HartState.{HartState, StandsFor, IsTimed}
 use Rattle.rv_isa.specs.Hart.{left_after, row_from, TakesStepFrom, TakesTimes}
 use Rattle.rv_isa.specs.Resumed.{HoldsListed, IsKnown}
-use Rattle.rv_isa.specs.declared.hart.Stepped.{Stepped}
 use Rattle.rv_isa.proofs.Lemmas.{run-version, runs-are-states, runs-fit, holds-last-uses}
-use Rattle.rv_point.specs.SameSteps.{Share, IsSameStep}
+use Rattle.rv_point.specs.SameSteps.{IsSameStep}
 use Rattle.rv_point.specs.Start.{cell_at, cells_of}
-use Rattle.rv_point.specs.Replays.{among, known, IsAlike, IsReplaying, ReplaysBegin, MakesRow, ReplaysStep}
+use Rattle.rv_point.specs.Replays.{among, known, IsAlike, ReplaysBegin, ReplaysStep}
 use Rattle.rv_point.proofs.Kept.{Spares, next-keeps}
 use Rattle.rv_point.proofs.LatestUse.{of_cells, kept-in, last_use-kept, last_use-dropped}
 use Rattle.rv_point.proofs.LeftTuples.{left_by, left_from, history-early, rows-cells}

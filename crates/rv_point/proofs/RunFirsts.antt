@@ -1,28 +1,26 @@
 -- The first uses of cells in some rows of a run find what the cells held before these rows.
-use Rattle.std.proofs.Common.{◌≡◌, ◌≢◌, ℕ, zero, suc, ◌+◌, ◌<◌, ◌≤◌, Bool, true, false, cond, nat_le, List, [], ◌∷◌, ◌++◌, map, filter, refl, sym, ◌∙◌, ap, subst, inl, inr, arith, append-nil, append_assoc}
+use Rattle.std.proofs.Common.{◌≡◌, ◌≢◌, ℕ, zero, suc, ◌+◌, ◌<◌, ◌≤◌, true, false, cond, nat_le, List, [], ◌∷◌, ◌++◌, map, filter, refl, sym, ◌∙◌, ap, subst, inl, inr, arith, append_assoc}
 use Rattle.std.specs.List.{AllByRecursion, flat_map}
 use Rattle.std.proofs.lemmas.List.{map-append}
 use Rattle.std.proofs.lemmas.List.Elements.{filter-append}
 use Rattle.rv_base.specs.declared.record.Access.{Access}
-use Rattle.rv_base.specs.declared.record.TableEntry.{TableEntry}
 use Rattle.rv_base.specs.declared.record.Tuple.{Tuple}
 use Rattle.rv_spec.specs.Elf.{Image}
 use Rattle.rv_spec.specs.Step.{State}
 use Rattle.rv_spec.specs.Run.{run, next_state}
 use Rattle.rv_spec.specs.Cells.{value, time_of}
 use Rattle.rv_spec.specs.Visits.{Use, Visit, visit, step_uses, visits}
-use Rattle.rv_spec.specs.Trace.{Row, access, tuples_left, history, last_use, row, rows}
+use Rattle.rv_spec.specs.Trace.{Row, access, tuples_left, history, last_use, rows}
 use Rattle.rv_spec.specs.Tuples.{Event, event, events, tuple_written}
 use Rattle.rv_rules.specs.Membership.{In}
 use Rattle.rv_rules.proofs.Lemmas.{in-append, in-left, in-right, in-map, in-map-back, all-in, all-of}
 use Rattle.rv_isa.specs.Ranges.{Rises}
 use Rattle.rv_isa.proofs.Lemmas.{step-slots-rise, all-within}
-use Rattle.rv_point.specs.Start.{cell_at}
 use Rattle.rv_point.specs.Course.{entry_of, first_finds, all_first_finds}
 use Rattle.rv_point.proofs.Kept.{Spares, next-keeps}
 use Rattle.rv_point.proofs.LatestUse.{last_use-cut}
 use Rattle.rv_point.proofs.FirstUses.{Unused, Link, Linked, linked-append, firsts, found_by, is_first, AreFirsts, firsts-are}
-use Rattle.rv_point.proofs.LeftTuples.{left_by, left_from, left_from-more, history-more, left_from-times, history-early, rows-cells}
+use Rattle.rv_point.proofs.LeftTuples.{left_by, left_from, left_from-more, history-more, left_from-times, history-early}
 
 -- ---- what the uses of a step leave
 

@@ -1,13 +1,12 @@
 -- Two states that share what a step uses make the same step: the expected step by the old values of one is that by the old values of the other.
-use Rattle.std.proofs.Common.{◌≡◌, ◌≢◌, ℕ, ◌+◌, ◌<◌, ◌≤◌, List, [], ◌∷◌, ◌++◌, length, map, Some, None, refl, sym, ◌∙◌, ap, subst, arith, append-nil}
+use Rattle.std.proofs.Common.{◌≡◌, ◌≢◌, ℕ, ◌+◌, ◌<◌, ◌≤◌, List, [], ◌∷◌, ◌++◌, length, map, refl, sym, ◌∙◌, ap, subst, arith, append-nil}
 use Rattle.std.specs.List.{AllByRecursion}
-use Rattle.rv_base.specs.declared.record.End.{End}
 use Rattle.rv_base.specs.declared.record.Seen.{Seen}
 use Rattle.rv_base.specs.declared.record.Touch.{Touch}
 use Rattle.rv_spec.specs.Step.{State, Transition, Next, Ends, step}
 use Rattle.rv_spec.specs.Run.{state_after, end_of, next_state}
 use Rattle.rv_spec.specs.Cells.{value}
-use Rattle.rv_spec.specs.Visits.{Use, Visit, visit, step_uses, visits}
+use Rattle.rv_spec.specs.Visits.{Use, visit, step_uses, visits}
 use Rattle.rv_spec.specs.Trace.{access}
 use Rattle.rv_rules.specs.Expected.{Expected, expected}
 use Rattle.rv_rules.specs.RowRules.{seen}

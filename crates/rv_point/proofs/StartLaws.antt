@@ -1,5 +1,5 @@
 -- The next shard of a run, and why there is none.
-use Rattle.std.proofs.Common.{◌≡◌, ◌⊎◌, ℕ, zero, suc, ◌+◌, ◌-◌, ◌*◌, ◌/◌, ◌%◌, ◌<◌, ◌≤◌, min, List, [], ◌++◌, length, map, Option, Some, None, refl, sym, ◌∙◌, ap, subst, inl, inr, arith}
+use Rattle.std.proofs.Common.{◌≡◌, ℕ, zero, suc, ◌+◌, ◌-◌, ◌*◌, ◌/◌, ◌%◌, ◌<◌, ◌≤◌, min, List, [], length, map, Option, Some, None, refl, sym, ◌∙◌, ap, subst, inl, inr, arith}
 use Rattle.std.specs.Int.{div_ceil}
 use Rattle.std.specs.List.Sorted.{IsPermutation, IsNonDecreasingBy}
 use Rattle.std.proofs.lemmas.Bool.{cases_lt}
@@ -10,17 +10,15 @@ use Rattle.rv_base.specs.declared.record.End.{End}
 use Rattle.rv_base.specs.declared.record.Place.{Place}
 use Rattle.rv_base.specs.declared.record.TableEntry.{TableEntry}
 use Rattle.rv_spec.specs.Elf.{Image}
-use Rattle.rv_spec.specs.Step.{State}
-use Rattle.rv_spec.specs.Run.{run, end_at, GoesOn, EndsIn}
+use Rattle.rv_spec.specs.Run.{end_at, GoesOn, EndsIn}
 use Rattle.rv_spec.specs.Trace.{rows}
 use Rattle.rv_spec.specs.Record.{place_at}
-use Rattle.rv_isa.specs.HartState.{HartState}
 use Rattle.rv_point.specs.declared.course.Course.{Course}
 use Rattle.rv_point.specs.declared.start.ShardStart.{ShardStart}
-use Rattle.rv_point.specs.Start.{one_more, steps_from, cell_at, cells_of, HasShard, shard_start}
-use Rattle.rv_point.specs.Course.{IsAfter, IsAt, IsSameRun, IsBegun, TakesRows, TakesShard, SkipsSteps, IsOverBudget, NeedsMore, IsNextStart}
+use Rattle.rv_point.specs.Start.{one_more, steps_from, cell_at, cells_of}
+use Rattle.rv_point.specs.Course.{IsAfter, IsSameRun, IsBegun, TakesRows, TakesShard, SkipsSteps, IsOverBudget, NeedsMore, IsNextStart}
 use Rattle.rv_point.proofs.Collected.{collected-are}
-use Rattle.rv_point.proofs.CourseLaws.{steps-all, steps-ended}
+use Rattle.rv_point.proofs.CourseLaws.{steps-ended}
 
 -- ---- numbers
 

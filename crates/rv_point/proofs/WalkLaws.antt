@@ -1,9 +1,8 @@
 -- A walk stands behind the shards that it gave, or has an error.
-use Rattle.std.proofs.Common.{◌≡◌, ◌⊎◌, ℕ, ◌+◌, ◌*◌, ◌≤◌, List, [], length, Option, Some, None, refl, sym, ◌∙◌, ap, subst, arith}
+use Rattle.std.proofs.Common.{◌≡◌, ℕ, ◌*◌, List, [], Some, None, sym, ◌∙◌, ap, subst, arith}
 use Rattle.std.specs.Int.{IsInRange, div_ceil}
-use Rattle.rv_base.specs.declared.limits.TheConstants.{BUDGET_LIMIT, SHARD_SIZE_LIMIT, SHARDS_LIMIT}
+use Rattle.rv_base.specs.declared.limits.TheConstants.{BUDGET_LIMIT, SHARD_SIZE_LIMIT}
 use Rattle.rv_base.specs.declared.record.End.{End}
-use Rattle.rv_base.specs.declared.record.TableEntry.{TableEntry}
 use Rattle.rv_spec.specs.Words.{AreBytes}
 use Rattle.rv_spec.specs.Elf.{Image}
 use Rattle.rv_spec.specs.Step.{start}
@@ -13,13 +12,10 @@ use Rattle.rv_rules.specs.Agreement.{IsProgram}
 use Rattle.rv_mem.specs.Contents.{IsTable}
 use Rattle.rv_isa.proofs.Lemmas.{touched-table}
 use Rattle.rv_isa.specs.HartState.{HartState, StandsFor, IsTimed}
-use Rattle.rv_point.specs.declared.course.Course.{Course}
-use Rattle.rv_point.specs.declared.fault.RunFault.{RunFault}
 use Rattle.rv_point.specs.declared.walk.Walk.TheInside.{Inside}
 use Rattle.rv_point.specs.declared.walk.Whole.{Whole}
-use Rattle.rv_point.specs.Course.{IsAt, IsBegun, HasFault}
+use Rattle.rv_point.specs.Course.{IsBegun}
 use Rattle.rv_point.specs.Walk.{HasGivenAll, IsWhole}
-use Rattle.rv_point.specs.WalkState.{WalkState}
 use Rattle.rv_point.specs.WalkView.{walk_view, IsWalk}
 
 pub walk-opened : (w : Inside) (i : Image) → IsProgram i → AreBytes w.course.hart.input → w.course.hart.cells.image ≡ i → StandsFor w.course.hart (start i) → IsTimed w.course.hart [] 0 → w.course.output.items ≡ [] → w.course.steps ≡ 0 → w.course.ended ≡ None → w.given ≡ 0 → w.fault ≡ None

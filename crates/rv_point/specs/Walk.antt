@@ -1,9 +1,8 @@
 -- What the calls of a walk give.
-use Rattle.std.specs.Prelude.{◌≡◌, ℕ, ◌+◌, ◌≤◌, List, Option, Some, None}
+use Rattle.std.specs.Prelude.{◌≡◌, ℕ, ◌+◌, ◌≤◌, Option, Some, None}
 use Rattle.std.specs.Int.{div_ceil}
 use Rattle.rv_base.specs.declared.limits.TheConstants.{SHARDS_LIMIT}
 use Rattle.rv_base.specs.declared.record.End.{End}
-use Rattle.rv_spec.specs.Elf.{Image}
 use Rattle.rv_spec.specs.Run.{run, EndsIn}
 use Rattle.rv_spec.specs.Trace.{table}
 use Rattle.rv_point.specs.declared.start.ShardStart.{ShardStart}

@@ -1,5 +1,4 @@
 use Rattle.rv_point.proofs.ReplayLaws.{replays-begin, replays-step}
-use Rattle.rv_point.proofs.Lemmas.{start-known, output-few}
 use Rattle.rv_point.proofs.laws.replays.Goals as goal
 
 pub returns-clause-begin : goal.returns-clause-begin

@@ -1,7 +1,6 @@
-use Rattle.std.proofs.Common.{◌≡◌, ℕ, ◌+◌, ◌++◌, List, [], ◌∷◌, map, Some, sym, ◌∙◌, ap, subst, arith}
+use Rattle.std.proofs.Common.{◌≡◌, ◌+◌, ◌++◌, [], ◌∷◌, map, Some, sym, ◌∙◌, ap, subst, arith}
 use Rattle.std.specs.List.{range_with_len}
 use Rattle.std.proofs.lemmas.List.FromFn.{map-range_with_len_more}
-use Rattle.rv_point.specs.declared.start.ShardStart.{ShardStart}
 use Rattle.rv_point.specs.Start.{shard_start}
 use Rattle.rv_point.specs.Walk.{GivesNext}
 use Rattle.rv_point.proofs.points.survey.Goals as goal

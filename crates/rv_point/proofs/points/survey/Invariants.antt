@@ -1,4 +1,4 @@
-use Rattle.std.proofs.Common.{◌≡◌, ◌-◌, ◌+◌, length, map, None}
+use Rattle.std.proofs.Common.{◌≡◌, ◌-◌, ◌+◌, map}
 use Rattle.std.specs.List.{range_with_len}
 use Rattle.rv_base.specs.declared.limits.TheConstants.{SHARDS_LIMIT}
 use Rattle.rv_point.specs.Start.{shard_start}

@@ -1,4 +1,4 @@
-use Rattle.std.proofs.Common.{◌≡◌, ◌+◌, ◌/◌, ◌%◌, min, sym, ◌∙◌, ap}
+use Rattle.std.proofs.Common.{◌≡◌, sym, ◌∙◌, ap}
 use Rattle.std.specs.Int.{div_ceil}
 use Rattle.rv_point.proofs.CourseLaws.{some-of, none-of}
 use Rattle.rv_point.proofs.StartLaws.{none-left, more-needed}

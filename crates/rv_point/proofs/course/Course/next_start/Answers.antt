@@ -1,5 +1,4 @@
-use Rattle.std.proofs.Common.{◌≡◌, ℕ, ◌-◌, ◌≤◌, min, None, refl, sym, ◌∙◌, ap, subst, arith}
-use Rattle.rv_base.specs.declared.limits.TheConstants.{SHARD_SIZE_LIMIT}
+use Rattle.std.proofs.Common.{◌≡◌, ◌-◌, ◌≤◌, min, None, refl, sym, ◌∙◌, ap, subst, arith}
 use Rattle.rv_point.specs.Course.{TakesShard}
 use Rattle.rv_point.proofs.CourseLaws.{some-of, none-of}
 use Rattle.rv_point.proofs.StartLaws.{place-is, rows-within, over-budget, start-is, begun-next}

@@ -1,6 +1,4 @@
-use Rattle.std.proofs.Common.{◌≡◌, ℕ, ◌+◌, ◌++◌, List, refl, sym, ◌∙◌, ap, subst, arith}
-use Rattle.rv_base.specs.declared.record.Access.{Access}
-use Rattle.rv_base.specs.declared.record.TableEntry.{TableEntry}
+use Rattle.std.proofs.Common.{◌≡◌, ◌+◌, ◌++◌, sym, ◌∙◌, subst, arith}
 use Rattle.rv_spec.specs.Cells.{time_of}
 use Rattle.rv_point.specs.Course.{first_finds}
 use Rattle.rv_point.proofs.CourseLaws.{HasTaken, taken-none, taken-more, taken-all, taken-ended, some-of, none-of}

@@ -1,4 +1,4 @@
-use Rattle.std.proofs.Common.{◌≡◌, ℕ, ◌*◌, ◌<◌, ◌≤◌, List, length, map, sym, ◌∙◌, ap, subst, arith, Option, Some, None, MatchOption, IfSome, HoldsAt, Bor}
+use Rattle.std.proofs.Common.{◌≡◌, ℕ, ◌*◌, ◌<◌, ◌≤◌, List, length, map, ◌∙◌, ap, subst, arith, Option, Some, None, MatchOption, IfSome, HoldsAt, Bor}
 use Rattle.std.specs.Int.{div_ceil, IsInRange}
 use Rattle.std.specs.List.{range_with_len}
 use Rattle.std.proofs.lemmas.List.FromFn.{length-map-range_with_len, get_or-map-range_with_len}

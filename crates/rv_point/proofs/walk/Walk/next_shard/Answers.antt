@@ -1,4 +1,4 @@
-use Rattle.std.proofs.Common.{◌≡◌, ℕ, None, refl, sym, ◌∙◌, ap, subst}
+use Rattle.std.proofs.Common.{None, refl, sym, ◌∙◌, ap, subst}
 use Rattle.rv_point.specs.declared.course.Course.{Course}
 use Rattle.rv_point.specs.WalkState.{WalkState}
 use Rattle.rv_point.specs.WalkView.{walk_view}
