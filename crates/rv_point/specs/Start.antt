@@ -1,18 +1,19 @@
 -- What is known before a shard is replayed, and what its replay gives (this project's own).
-use Rattle.std.specs.Prelude.{◌≡◌, ◌<◌, ℕ, zero, suc, ◌+◌, ◌*◌, List, map, Option, Some, None}
-use Rattle.std.specs.List.{flat_map}
+use Rattle.std.specs.Prelude.{◌≡◌, ◌<◌, ℕ, zero, suc, ◌+◌, ◌*◌, List, ◌++◌, map, Option, Some, None}
+use Rattle.std.specs.List.{flat_map, range_with_len}
 use Rattle.std.specs.Int.{div_ceil, IsInRange}
 use Rattle.rv_base.specs.declared.limits.TheConstants.{SHARD_SIZE_LIMIT, SHARDS_LIMIT}
 use Rattle.rv_base.specs.declared.record.End.{End}
 use Rattle.rv_base.specs.declared.record.Place.{Place}
 use Rattle.rv_base.specs.declared.record.Refusal.{Refusal}
 use Rattle.rv_base.specs.declared.record.TableEntry.{TableEntry}
-use Rattle.rv_spec.specs.Elf.{Image}
+use Rattle.rv_point.specs.declared.start.ShardStart.{ShardStart}
+use Rattle.rv_spec.specs.Elf.{Image, image}
 use Rattle.rv_spec.specs.Run.{run, end_at, GoesOn, EndsIn}
 use Rattle.rv_spec.specs.Cells.{value, time_of}
-use Rattle.rv_spec.specs.Trace.{Row, history, last_use, rising, rows}
+use Rattle.rv_spec.specs.Trace.{Row, history, last_use, rising, rows, table}
 use Rattle.rv_spec.specs.Digest.{Lanes}
-use Rattle.rv_spec.specs.Record.{place_at, shard_rows, shard_of, shard, shard_bytes}
+use Rattle.rv_spec.specs.Record.{place_at, shard_rows, shard_of, shard, shard_bytes, header, header_bytes, table_bytes, record_file}
 
 -- how many of n steps from step k on the run takes, the ending one counted
 abbrev pub one_more : Option End → ℕ → ℕ
@@ -26,14 +27,6 @@ steps_from i input k (suc n) = one_more (end_at i input k) (steps_from i input (
 -- a run has shard j where no step of the shards before it ends it
 abbrev pub HasShard : Image → List ℕ → ℕ → ℕ → Type 0
 HasShard i input size j = GoesOn i input (j * size)
-
--- A shard before its first row: its number, its rows, its first step, the place, and each cell that it uses, rising, with its value and the time of its last use, or 0.
-pub record ShardStart : Type 0 where
-  pub index : ℕ
-  pub rows : ℕ
-  pub step : ℕ
-  pub place : Place
-  pub cells : List TableEntry
 
 -- the cells that some rows use, rising
 abbrev pub cells_of : List Row → List ℕ
@@ -88,3 +81,8 @@ pub record IsShardOfRecord (lanes : Lanes) (i : Image) (input : List ℕ) (size 
 abbrev pub PiecesAreShards : Type 0
 PiecesAreShards = (lanes : Lanes) (i : Image) (input : List ℕ) (size n j : ℕ) (e : End) → EndsIn i input n e → IsInRange 1 SHARD_SIZE_LIMIT size → j < div_ceil n size
     → IsShardOfRecord lanes i input size n j
+
+-- And the record of the run is its header, its output, the bytes of the pieces in order, and its table.
+abbrev pub RecordIsPieces : Type 0
+RecordIsPieces = (lanes : Lanes) (v : ℕ) (elf input : List ℕ) (size n : ℕ) (e : End) → let i = image v elf in EndsIn i input n e → IsInRange 1 SHARD_SIZE_LIMIT size
+    → record_file lanes v elf input size n e ≡ header_bytes (header v elf input size n e) ++ (run i input n).output ++ flat_map (λ j. (piece lanes i input size j).bytes) (range_with_len 0 (div_ceil n size)) ++ table_bytes (table i input n)
