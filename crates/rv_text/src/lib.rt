@@ -1,0 +1,11 @@
+//! Instructions and rows as text.
+#![tactic(auto)]
+
+mod disassembly;
+mod syntax;
+
+pub use disassembly::{disasm, disasm_atomic};
+pub use syntax::{Operands, Syntax, atomic_syntax_of, syntax_of};
+
+#[cfg(test)]
+mod tests;
