@@ -2,3 +2,5 @@
 pub mod Syntax
 -- the lines of rows
 pub mod Listing
+-- a step of listing
+pub mod Within

@@ -2,9 +2,11 @@
 #![tactic(auto)]
 
 mod disassembly;
+mod listing;
 mod syntax;
 
 pub use disassembly::{disasm, disasm_atomic};
+pub use listing::explain;
 pub use syntax::{Operands, Syntax, atomic_syntax_of, syntax_of};
 
 #[cfg(test)]
