@@ -20,11 +20,14 @@ use rv_row::{Row, RowRead, read_row};
 use std::alloc::{AllocError, Global};
 use std::fmt::Write;
 
+/// The version whose words may be of extension A.
+const WITH_ATOMICS: u8 = 2;
+
 /// The text of a word in a version.
 fn word_text(version: u8, word: u32) -> ArrayString<48>
     ensures { result.bytes ≡ word_text_of version word }
 {
-    if version == 2 {
+    if version == WITH_ATOMICS {
         if let Some(text) = disasm_atomic(word) {
             return text;
         }
@@ -72,7 +75,8 @@ fn push_access(text: &mut String, step: u64, access: &Access) -> Result<(), Allo
     text.push_str(" ")?;
     push_cell(text, access.cell)?;
     push_stamped(text, access.old, access.prev)?;
-    push_stamped(text, access.new, time_of(step, slot))?;
+    let time = time_of(step, slot);
+    push_stamped(text, access.new, time)?;
     text.push_str("\n")?;
     Ok(())
 }
