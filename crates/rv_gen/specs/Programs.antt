@@ -204,8 +204,8 @@ program number size = (drawn (size / 42) number).0
 
 -- The words spell these instructions. A word of 32 bits that spells an instruction is the only one.
 pub record SpellCode (words : List ℕ) (instrs : List Instr) : Type 0 where
-  pub words : AllByRecursion (λ w. w < 2 ^ 32) words
-  pub instrs : map decode words ≡ map Some instrs
+  pub fit : AllByRecursion (λ w. w < 2 ^ 32) words
+  pub spell : map decode words ≡ map Some instrs
 
 -- the address of the first instruction
 abbrev pub code_start : ℕ
@@ -216,8 +216,8 @@ abbrev pub executable_of : List ℕ → List ℕ
 executable_of words = elf_file code_start (record { address = code_start; bytes = words_bytes words; size = length (words_bytes words) } ∷ [])
 
 -- The program of a number and a size: an executable whose words spell the instructions, in one part, and its input.
-pub record IsProgram (number size : ℕ) (elf input : List ℕ) : Type 0 where
+pub record IsProgram (number size : ℕ) (file given_bytes : List ℕ) : Type 0 where
   pub code : List ℕ
   pub spells : SpellCode code (program number size).0
-  pub elf : elf ≡ executable_of code
-  pub input : input ≡ (program number size).1
+  pub elf : file ≡ executable_of code
+  pub input : given_bytes ≡ (program number size).1

@@ -11,6 +11,9 @@ decoded words = map decode words
 abbrev pub Adds : List Instr → List ℕ → List ℕ → Type 0
 Adds instrs old new = decoded new ≡ decoded old ++ map Some instrs
 
--- they spell what was drawn
+-- they spell what was drawn, and this is the state behind it
+abbrev pub AddsPair : List Instr × ℕ → ℕ → List ℕ → List ℕ → Type 0
+AddsPair p after old new = Adds p.0 old new × (after ≡ p.1)
+
 abbrev pub AddsDrawn : Draw (List Instr) → ℕ → ℕ → List ℕ → List ℕ → Type 0
-AddsDrawn items before after old new = Adds (items before).0 old new × (after ≡ (items before).1)
+AddsDrawn items before after old new = AddsPair (items before) after old new

@@ -1,12 +1,12 @@
 //! Programs made from a number, for trying the whole on code that nobody wrote by hand.
 #![tactic(auto)]
 
-mod code;
 mod draws;
 mod items;
-mod program;
+mod made;
+mod words;
 
-pub use program::{Made, program};
+pub use made::{Made, program};
 
 #[cfg(test)]
 mod tests;

@@ -3,7 +3,7 @@
 ghost use Rattle.std.specs.Prelude.{◌≡◌, ℕ, ◌+◌, ◌*◌, ◌-◌, ◌/◌, ◌^◌, ◌<◌, ◌≤◌, ℤ, pos, neg_ℤ, List, [], ◌∷◌, ◌++◌, length, map, Some, IfOk, OnOk};
 ghost use Rattle.rv_base.specs.declared.instr.Instr.TheVariants as instr;
 ghost use Rattle.rv_base.specs.declared.instr.Op.TheVariants as op;
-ghost use Rattle.rv_decode.specs.Ranges.{IsEncodable, IsRegister, IsSigned};
+ghost use Rattle.rv_decode.specs.Ranges.{IsEncodable, IsOffset, IsRegister, IsSigned};
 ghost use Rattle.rv_gen.specs.Programs.{li as li_of, call_item as call_item_of, item as item_of, items as items_of, word as word_of, filled as filled_of, front as front_of, back as back_of, code as code_of};
 ghost use Rattle.rv_gen.specs.Words.{decoded, Adds, AddsDrawn};
 
@@ -161,6 +161,15 @@ fn push_front(code: &mut Vec<u32>, rounds: u32) -> Result<(), AllocError>
     push(code, load_immediate(ROUNDS_REGISTER, rounds as i32))
 }
 
+/// From the branch back to the first of a body of some words, in bytes.
+fn loop_offset(body: u32) -> i32
+    requires { body ≤ 1000 }
+    ensures value { result ≡ neg_ℤ (pos (4 * (body + 2))) }
+    ensures range { IsOffset 13 result }
+{
+    -((4 * (body + 2)) as i32)
+}
+
 /// The next round, behind a body of some words, and the exit.
 fn push_back(code: &mut Vec<u32>, body: u32) -> Result<(), AllocError>
     requires { body ≤ 1000 }
@@ -181,7 +190,7 @@ fn push_back(code: &mut Vec<u32>, body: u32) -> Result<(), AllocError>
             cond: Cond::Ne,
             rs1: ROUNDS_REGISTER,
             rs2: 0,
-            off: -4 * (body as i32 + 2),
+            off: loop_offset(body),
         },
     )?;
     push(code, load_immediate(10, 0))?;

@@ -1,0 +1,23 @@
+use Rattle.std.proofs.Common.{◌≡◌, ℕ, zero, suc, ◌+◌, ◌-◌, ◌*◌, ◌%◌, ◌^◌, ◌<◌, ◌≤◌, ℤ, pos, neg_ℤ, ◌-ℤ◌, Bool, true, false, ◌==◌, if◌then◌else◌, List, [], ◌∷◌, ◌++◌, take, length, map, Some, OnOk, w32, to_z, of_z, refl, sym, ap, subst, ◌∙◌, append_assoc, eq-eqb, ne_eqb, arith}
+use Rattle.std.proofs.lemmas.Int.{ints}
+use Rattle.std.proofs.lemmas.List.{append-nil, take_all}
+use Rattle.rv_base.specs.declared.instr.Instr.{Instr}
+use Rattle.rv_base.specs.declared.instr.Instr.TheVariants as instr
+use Rattle.rv_base.specs.declared.instr.Op.TheVariants as op
+use Rattle.rv_base.specs.declared.instr.Cond.TheVariants as cond
+use Rattle.rv_gen.specs.Draws.{Draw, given, draw, bytes, ◌>>=◌}
+use Rattle.rv_gen.specs.Words.{decoded, Adds, AddsPair, AddsDrawn}
+use Rattle.rv_gen.specs.Programs.{pool, small, offset, li, word, call_item, single_item, alone, item_of, item, items, filled, front, back, code, load_width, store_width}
+use Rattle.rv_gen.proofs.Binds.{bind_is, on_ok, adds_more, adds_pair, draws_more}
+use Rattle.rv_gen.proofs.words.push_back.Goals as goal
+
+pub returns : goal.returns
+returns c =
+    let n = c.args.body in
+    let fence = instr.Fence 0 0 (pos 0) in
+    let branch : ℤ → Instr = λ (z : ℤ). instr.Branch cond.Ne 9 0 z in
+    let old = c.args.code.now.items in
+    let is = fence ∷ c.add_immediate.result ∷ branch c.loop_offset.result ∷ c.load_immediate.result ∷ c.load_immediate-2.result ∷ instr.Ecall ∷ [] in
+    let same : is ≡ back n = (λ i. fence ∷ c.add_immediate.ensures.value i ∷ branch (c.loop_offset.ensures.value i) ∷ c.load_immediate.ensures.value i ∷ c.load_immediate-2.ensures.value i ∷ instr.Ecall ∷ []) in
+    let five = adds_more _ _ _ _ _ (adds_more _ _ _ _ _ (adds_more _ _ _ _ _ (adds_more (fence ∷ []) (c.add_immediate.result ∷ []) old _ _ c.in_ok-push.ensures c.in_ok-push-2.ensures) c.in_ok-push-3.ensures) c.in_ok-push-4.ensures) c.in_ok-push-5.ensures in
+    on_ok c.push-6.result (λ last. subst (λ (l : List Instr). Adds l old c.push-6.new.code.items) same (adds_more _ _ _ _ _ five last)) c.push-6.ensures
