@@ -30,3 +30,11 @@ unfolding ◌>>=◌
 draws_more d rest s s' t old mid new e f =
     let moved : AddsPair (rest (d s).1) t mid new = subst (λ k. AddsPair (rest k) t mid new) e.1 f in
     (adds_more (d s).0 (rest (d s).1).0 old mid new e.0 moved.0, moved.1)
+
+-- ---- instructions one after another
+
+pub adds_5 : (a b c d e : Instr) (t0 t1 t2 t3 t4 t5 : List ℕ) → Adds (a ∷ []) t0 t1 → Adds (b ∷ []) t1 t2 → Adds (c ∷ []) t2 t3 → Adds (d ∷ []) t3 t4 → Adds (e ∷ []) t4 t5 → Adds (a ∷ b ∷ c ∷ d ∷ e ∷ []) t0 t5
+adds_5 a b c d e t0 t1 t2 t3 t4 t5 h0 h1 h2 h3 h4 = adds_more (a ∷ b ∷ c ∷ d ∷ []) (e ∷ []) t0 t4 t5 (adds_more (a ∷ b ∷ c ∷ []) (d ∷ []) t0 t3 t4 (adds_more (a ∷ b ∷ []) (c ∷ []) t0 t2 t3 (adds_more (a ∷ []) (b ∷ []) t0 t1 t2 h0 h1) h2) h3) h4
+
+pub adds_6 : (a b c d e f : Instr) (t0 t1 t2 t3 t4 t5 t6 : List ℕ) → Adds (a ∷ []) t0 t1 → Adds (b ∷ []) t1 t2 → Adds (c ∷ []) t2 t3 → Adds (d ∷ []) t3 t4 → Adds (e ∷ []) t4 t5 → Adds (f ∷ []) t5 t6 → Adds (a ∷ b ∷ c ∷ d ∷ e ∷ f ∷ []) t0 t6
+adds_6 a b c d e f t0 t1 t2 t3 t4 t5 t6 h0 h1 h2 h3 h4 h5 = adds_more (a ∷ b ∷ c ∷ d ∷ e ∷ []) (f ∷ []) t0 t5 t6 (adds_more (a ∷ b ∷ c ∷ d ∷ []) (e ∷ []) t0 t4 t5 (adds_more (a ∷ b ∷ c ∷ []) (d ∷ []) t0 t3 t4 (adds_more (a ∷ b ∷ []) (c ∷ []) t0 t2 t3 (adds_more (a ∷ []) (b ∷ []) t0 t1 t2 h0 h1) h2) h3) h4) h5

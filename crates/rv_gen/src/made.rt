@@ -1,7 +1,8 @@
 //! A program and its input.
 
-ghost use Rattle.std.specs.Prelude.{◌≡◌, ◌*◌, ◌/◌, ◌≤◌, [], ◌∷◌, length, IfOk};
+ghost use Rattle.std.specs.Prelude.{◌≡◌, ◌*◌, ◌/◌, ◌^◌, ◌<◌, ◌≤◌, [], ◌∷◌, length, IfOk};
 ghost use Rattle.std.specs.Int.{IsInRange};
+ghost use Rattle.std.specs.List.{AllByRecursion};
 ghost use Rattle.rv_elf.specs.ElfFile.{elf_file};
 ghost use Rattle.rv_elf.specs.Written.{words_bytes};
 ghost use Rattle.rv_gen.specs.Draws.{bytes as bytes_of};
@@ -69,7 +70,8 @@ fn bytes(alloc: Global, words: &[u32]) -> Result<Vec<u8>, AllocError>
 /// The executable of these words.
 fn executable(alloc: Global, words: &[u32]) -> Result<Vec<u8>, NoMemory>
     requires { length words.now ≤ 200 }
-    ensures { IfOk result (λ v. v.items ≡ executable_of words.now) }
+    ensures file { IfOk result (λ v. v.items ≡ executable_of words.now) }
+    ensures numbers { AllByRecursion (λ w. w < 2 ^ 32) words.now }
 {
     let bytes = bytes(alloc, words)?;
     let len = bytes.len() as u32;

@@ -18,7 +18,7 @@ loop-preserved c rest t h =
     let d = c.draw.result in
     let next : (d ∷ rest, t) ≡ bytes (256 - c.loop.counter) c.loop.draws.state =
     bind_is _ _ _ _ _ _ c.draw.ensures.drawn (bind_is _ _ _ _ _ _ h refl) ∙ ap (λ k. bytes k c.loop.draws.state) (sym more) in
-    ap (λ (l : List ℕ). (l, t)) (append_assoc c.loop.input.items (d ∷ []) rest) ∙ c.loop.invariant (d ∷ rest) t next
+    ap (λ (l : List ℕ). (l ++ rest, t)) c.in_ok-push.ensures.items ∙ ap (λ (l : List ℕ). (l, t)) (append_assoc c.loop.input.items (d ∷ []) rest) ∙ c.loop.invariant (d ∷ rest) t next
 
 pub returns : goal.returns
 unfolding bytes

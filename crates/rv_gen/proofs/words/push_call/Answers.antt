@@ -8,7 +8,7 @@ use Rattle.rv_base.specs.declared.instr.Cond.TheVariants as cond
 use Rattle.rv_gen.specs.Draws.{Draw, given, draw, bytes, ◌>>=◌}
 use Rattle.rv_gen.specs.Words.{decoded, Adds, AddsPair, AddsDrawn}
 use Rattle.rv_gen.specs.Programs.{pool, small, offset, li, word, call_item, single_item, alone, item_of, item, items, filled, front, back, code, load_width, store_width}
-use Rattle.rv_gen.proofs.Binds.{bind_is, on_ok, adds_more, adds_pair, draws_more}
+use Rattle.rv_gen.proofs.Binds.{bind_is, on_ok, adds_5, adds_pair, draws_more}
 use Rattle.rv_gen.proofs.words.push_call.Goals as goal
 
 pub returns : goal.returns
@@ -24,7 +24,6 @@ returns c =
     let e3 = c.add_immediate.ensures.value ∙ ap (λ (z : ℤ). instr.OpImm op.Add 11 8 z) place in
     let e4 = c.load_immediate-3.ensures.value in
     let is = c.load_immediate.result ∷ c.load_immediate-2.result ∷ c.add_immediate.result ∷ c.load_immediate-3.result ∷ instr.Ecall ∷ [] in
-    let four = adds_more _ _ _ _ _ (adds_more _ _ _ _ _ (adds_more (c.load_immediate.result ∷ []) (c.load_immediate-2.result ∷ []) _ _ _ c.in_ok-push.ensures c.in_ok-push-2.ensures) c.in_ok-push-3.ensures) c.in_ok-push-4.ensures in
     adds_pair _ is c.draw-at.new.self.state c.args.code.now.items c.push-5.new.code.items
     (bind_is _ _ _ _ _ _ c.draw-call.ensures.drawn (bind_is _ _ _ _ _ _ c.draw-at.ensures.drawn (λ i. (e1 i ∷ e2 i ∷ e3 i ∷ e4 i ∷ instr.Ecall ∷ [], c.draw-at.new.self.state))))
-    (adds_more _ _ _ _ _ four c.in_ok-push-5.ensures)
+    (adds_5 c.load_immediate.result c.load_immediate-2.result c.add_immediate.result c.load_immediate-3.result instr.Ecall c.args.code.now.items _ _ _ _ _ c.in_ok-push.ensures c.in_ok-push-2.ensures c.in_ok-push-3.ensures c.in_ok-push-4.ensures c.in_ok-push-5.ensures)
