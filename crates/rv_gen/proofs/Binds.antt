@@ -1,5 +1,5 @@
 -- What is drawn in a row, and the words that spell it.
-use Rattle.std.proofs.Common.{◌≡◌, ℕ, zero, suc, ◌+◌, ◌*◌, ◌<◌, ◌≤◌, List, [], ◌∷◌, ◌++◌, length, map, Some, Option, Result, Ok, Err, OnOk, sym, ap, subst, ◌∙◌, refl, append_assoc, arith}
+use Rattle.std.proofs.Common.{◌≡◌, ℕ, List, [], ◌∷◌, ◌++◌, map, Some, Result, Ok, Err, OnOk, sym, ap, subst, ◌∙◌, refl, append_assoc}
 use Rattle.rv_base.specs.declared.instr.Instr.{Instr}
 use Rattle.rv_gen.specs.Draws.{Draw, given, ◌>>=◌}
 use Rattle.rv_gen.specs.Words.{decoded, Adds, AddsPair, AddsDrawn}

@@ -1,12 +1,12 @@
 -- How many words are appended, and the words of a program.
-use Rattle.std.proofs.Common.{◌≡◌, ℕ, zero, suc, ◌+◌, ◌*◌, ◌<◌, ◌≤◌, Bool, true, false, ◌==◌, if◌then◌else◌, List, [], ◌∷◌, ◌++◌, length, get_or, map, Some, sym, ap, subst, ◌∙◌, refl, append_assoc, arith}
-use Rattle.std.specs.List.{flat_map, AllByRecursion}
+use Rattle.std.proofs.Common.{◌≡◌, ℕ, zero, suc, ◌+◌, ◌*◌, ◌<◌, ◌≤◌, Bool, true, false, ◌==◌, if◌then◌else◌, List, [], ◌∷◌, ◌++◌, length, get_or, map, Some, ap, subst, ◌∙◌, refl, arith}
+use Rattle.std.specs.List.{AllByRecursion}
 use Rattle.std.specs.Int.{w32, to_le_bytes}
 use Rattle.std.proofs.lemmas.List.{length-append}
 use Rattle.rv_base.specs.declared.instr.Instr.{Instr}
 use Rattle.rv_spec.specs.Decode.{decode}
 use Rattle.rv_elf.specs.Written.{words_bytes}
-use Rattle.rv_gen.specs.Draws.{Draw, given, draw, bytes, ◌>>=◌}
+use Rattle.rv_gen.specs.Draws.{draw, bytes, ◌>>=◌}
 use Rattle.rv_gen.specs.Words.{decoded, Adds, AddsPair, AddsDrawn}
 use Rattle.rv_gen.specs.Programs.{word, call_item, single_item, alone, item_of, item, items, filled, front, back, code, drawn}
 use Rattle.rv_gen.proofs.Binds.{adds_more}

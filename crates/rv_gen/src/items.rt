@@ -43,14 +43,7 @@ const LOADS: [LoadKind; 5] = [
 
 const STORES: [StoreKind; 3] = [StoreKind::B, StoreKind::H, StoreKind::W];
 
-const CONDITIONS: [Cond; 6] = [
-    Cond::Eq,
-    Cond::Ne,
-    Cond::Lt,
-    Cond::Ge,
-    Cond::Ltu,
-    Cond::Geu,
-];
+const CONDITIONS: [Cond; 6] = [Cond::Eq, Cond::Ne, Cond::Lt, Cond::Ge, Cond::Ltu, Cond::Geu];
 
 fn load_width(kind: LoadKind) -> u32
     ensures value { result ≡ load_width_of kind }

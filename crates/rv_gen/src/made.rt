@@ -8,8 +8,8 @@ ghost use Rattle.rv_elf.specs.Written.{words_bytes};
 ghost use Rattle.rv_gen.specs.Draws.{bytes as bytes_of};
 ghost use Rattle.rv_gen.specs.Programs.{IsProgram, executable_of};
 
-use crate::words::code;
 use crate::draws::Generator;
+use crate::words::code;
 use rv_base::{Bytes, NoMemory};
 use rv_elf::{Part, write};
 use std::alloc::{AllocError, Global};

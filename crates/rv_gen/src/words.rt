@@ -22,6 +22,7 @@ const ROUNDS_REGISTER: u8 = 9;
 
 /// The first of the registers that the items use, and their number.
 const POOL_START: u8 = 18;
+
 const POOL_REGISTERS: u8 = 10;
 
 /// The items of the body.

@@ -1,5 +1,5 @@
 -- One row more of those that are listed.
-use Rattle.std.proofs.Common.{◌≡◌, ℕ, suc, ◌+◌, ◌-◌, ◌<◌, List, [], ◌∷◌, ◌++◌, length, take, drop, refl, sym, ap, ◌∙◌, append_assoc, arith}
+use Rattle.std.proofs.Common.{◌≡◌, ℕ, ◌+◌, ◌-◌, ◌<◌, List, [], ◌∷◌, ◌++◌, length, take, drop, refl, sym, ap, ◌∙◌, append_assoc, arith}
 use Rattle.std.specs.List.{flat_map, AllByRecursion}
 use Rattle.std.proofs.lemmas.List.{append-nil, drop_at, take_all, length-drop}
 use Rattle.rv_spec.specs.Trace.{Row}
@@ -50,5 +50,5 @@ row_step version from until first r rs tail rest old text text' row n fit lt e e
     ∙ ap (λ t. before ++ t) (within-one version from until (first + r) x ∙ append-nil (here version from until (first + r) x)) in (
       ap (λ (l : List ℕ). drop n l) begins ∙ drop_at (row_bytes x) more n (length-row_bytes x ∙ sym known.1) ∙ ap (λ l. flat_map row_bytes l ++ tail) (sym at.2.behind),
       e-new ∙ ap (λ t. t ++ here version from until (first + r) row) e-text ∙ ap (λ y. (old ++ before) ++ here version from until (first + r) y) known.0
-      ∙ append_assoc old before (here version from until (first + r) x) ∙ ap (λ t. old ++ t) (sym joined),
+          ∙ append_assoc old before (here version from until (first + r) x) ∙ ap (λ t. old ++ t) (sym joined),
     )

@@ -1,7 +1,6 @@
 -- One shard more of those that are listed.
-use Rattle.std.proofs.Common.{◌≡◌, ℕ, ◌+◌, ◌-◌, ◌*◌, ◌/◌, ◌<◌, ◌≤◌, min, ◌⊎◌, inl, inr, List, [], ◌∷◌, ◌++◌, length, take, drop, Some, slice_get, refl, sym, ap, ◌∙◌, ⊎_elim, arith}
+use Rattle.std.proofs.Common.{◌≡◌, ℕ, ◌+◌, ◌-◌, ◌*◌, ◌/◌, ◌<◌, ◌≤◌, min, ◌⊎◌, inl, inr, List, [], ◌∷◌, ◌++◌, length, take, drop, Some, slice_get, sym, ap, ◌∙◌, ⊎_elim, arith}
 use Rattle.std.specs.Int.{div_ceil}
-use Rattle.std.specs.List.{flat_map}
 use Rattle.std.proofs.Math.Nat.{mul-le-mul_right, div-mul-le_self}
 use Rattle.std.proofs.Math.Seq.{take-nil}
 use Rattle.std.proofs.lemmas.Bool.{cases_lt}
@@ -55,10 +54,10 @@ module _ (p : Parts) (fit : PartsFit p) (from until : ℕ) where
       let rows : rows_in p.shards ≡ before ++ after =
       ap rows_in (sym (take-append-drop k p.shards)) ∙ flat_map-append (λ (t : Shard). t.rows) (take k p.shards) (drop k p.shards) in
       sym (
-        ap (λ l. lines_within p.header.version from until 0 l) rows
-        ∙ within-append p.header.version from until 0 before after
-        ∙ ap (λ t. listed k ++ t) (within-after p.header.version from until (0 + length before) after (omega (arith, exact k lt)))
-        ∙ append-nil (listed k)
+      ap (λ l. lines_within p.header.version from until 0 l) rows
+      ∙ within-append p.header.version from until 0 before after
+      ∙ ap (λ t. listed k ++ t) (within-after p.header.version from until (0 + length before) after (omega (arith, exact k lt)))
+      ∙ append-nil (listed k)
       ))
       over)
       (λ le. all_listed k le)

@@ -1,6 +1,5 @@
 -- Where the rows of each shard lie among all rows.
-use Rattle.std.proofs.Common.{◌≡◌, ℕ, zero, suc, ◌+◌, ◌-◌, ◌*◌, ◌<◌, ◌≤◌, min, List, [], ◌∷◌, ◌++◌, length, take, drop, Some, slice_get, ◌^◌, refl, sym, ap, subst, ◌∙◌, append_assoc, length-append, arith}
-use Rattle.std.specs.Int.{div_ceil}
+use Rattle.std.proofs.Common.{◌≡◌, ℕ, zero, suc, ◌+◌, ◌-◌, ◌*◌, ◌<◌, ◌≤◌, List, [], ◌∷◌, ◌++◌, length, take, drop, Some, slice_get, ◌^◌, refl, sym, ap, subst, ◌∙◌, append_assoc, length-append, arith}
 use Rattle.std.specs.List.{flat_map}
 use Rattle.std.proofs.Math.Nat.{mul-le-mul_right}
 use Rattle.std.proofs.lemmas.Grind.{div_ceil_times}
@@ -50,12 +49,14 @@ shard_at h i (s ∷ ss) zero lt fit =
 shard_at h i (s ∷ ss) (suc j) lt fit =
     let more = shard_at h (i + 1) ss j (omega arith) fit.1 in
     let same : i + 1 + j ≡ i + suc j = omega arith in
-    let next : suc j + 1 ≡ suc (j + 1) = omega arith in
-    (more.0, record {
-      found = more.1.found;
-      fits = subst (λ k. ShardFits h k more.0) same more.1.fits;
-      front = ap (λ k. take k (s ∷ ss)) next ∙ ap (λ t. s ∷ t) more.1.front;
-    })
+    let next : suc j + 1 ≡ suc (j + 1) = omega arith in (
+      more.0,
+      record {
+        found = more.1.found;
+        fits = subst (λ k. ShardFits h k more.0) same more.1.fits;
+        front = ap (λ k. take k (s ∷ ss)) next ∙ ap (λ t. s ∷ t) more.1.front;
+      },
+    )
 
 -- the steps, by the shards
 pub record Sized (h : Header) : Type 0 where
@@ -73,9 +74,9 @@ sized p fit =
       most = most;
       less = λ k lt. (let grown : (k + 1) * h.size ≤ h.shards * h.size = mul-le-mul_right h.size (omega arith) in omega (arith, grown, least));
       within = (
-        let one : h.shards * h.size ≤ 65536 * h.size = mul-le-mul_right h.size fit.header.shards_within in
-        omega (arith, most, one, fit.header.size.1)
-      );
+          let one : h.shards * h.size ≤ 65536 * h.size = mul-le-mul_right h.size fit.header.shards_within in
+          omega (arith, most, one, fit.header.size.1)
+          );
     }
 
 length-head : (h : ShardHead) → length (head_bytes h) ≡ 32

@@ -1,6 +1,6 @@
 -- The lines of the rows within a range of steps.
-use Rattle.std.proofs.Common.{◌≡◌, ℕ, zero, suc, ◌+◌, ◌-◌, ◌<◌, ◌≤◌, Bool, true, false, cond, ◌&&◌, List, [], ◌∷◌, ◌++◌, length, take, drop, refl, sym, ap, ◌∙◌, append_assoc, ⊎_elim, add-zero, le-leb, lt-ltb, nat_le, nat_lt, if◌then◌else◌, arith}
-use Rattle.std.specs.List.{flat_map, AllByRecursion}
+use Rattle.std.proofs.Common.{◌≡◌, ℕ, zero, suc, ◌+◌, ◌-◌, ◌<◌, ◌≤◌, List, [], ◌∷◌, ◌++◌, length, take, drop, refl, sym, ap, ◌∙◌, append_assoc, ⊎_elim, add-zero, arith}
+use Rattle.std.specs.List.{AllByRecursion}
 use Rattle.std.proofs.Math.Seq.{take-nil, drop-nil}
 use Rattle.std.proofs.lemmas.Bool.{cases_lt}
 use Rattle.std.proofs.lemmas.Bool.Decides.{nat_tests}
@@ -99,11 +99,14 @@ at_place P [] i lt all = absurd (omega arith)
 at_place P (x ∷ xs) zero lt all = (x, xs, record { from = refl; behind = refl; front = refl; count = refl; holds = all.0 })
 at_place P (x ∷ xs) (suc i) lt all =
     let more = at_place P xs i (omega arith) all.1 in
-    let next : suc i + 1 ≡ suc (i + 1) = omega arith in
-    (more.0, more.1, record {
-      from = more.2.from;
-      behind = ap (λ k. drop k (x ∷ xs)) next ∙ more.2.behind;
-      front = ap (λ k. take k (x ∷ xs)) next ∙ ap (λ t. x ∷ t) more.2.front;
-      count = ap (λ k. suc k) more.2.count;
-      holds = more.2.holds;
-    })
+    let next : suc i + 1 ≡ suc (i + 1) = omega arith in (
+      more.0,
+      more.1,
+      record {
+        from = more.2.from;
+        behind = ap (λ k. drop k (x ∷ xs)) next ∙ more.2.behind;
+        front = ap (λ k. take k (x ∷ xs)) next ∙ ap (λ t. x ∷ t) more.2.front;
+        count = ap (λ k. suc k) more.2.count;
+        holds = more.2.holds;
+      },
+    )

@@ -1,5 +1,5 @@
 -- The assembly syntax of instructions: RISC-V Unprivileged ISA, "RV32/64G Instruction Set Listings" and "RISC-V Assembly Programmer's Handbook".
-use Rattle.std.specs.Prelude.{ℕ, ◌/◌, ◌^◌, ℤ, false, List, [], ◌∷◌, ◌++◌, Option, Some, None, codes, decimal}
+use Rattle.std.specs.Prelude.{ℕ, ◌/◌, ◌^◌, false, List, [], ◌∷◌, ◌++◌, Option, Some, None, codes, decimal}
 use Rattle.std.specs.Option.{option_map}
 use Rattle.std.specs.Fmt.{digits, signed_decimal}
 use Rattle.rv_base.specs.declared.instr.Op.{Op}

@@ -221,12 +221,7 @@ fn rows_between(
 
 /// The lines of as many rows of a file from a step on as are there: a line for the step, with its address, its word and the
 /// word's text, and a line for each access, with its slot, its cell, the old value with the previous time and the new value with its own time.
-pub fn explain(
-    alloc: Global,
-    parsed: &Parsed<'_>,
-    from: u64,
-    count: u32,
-) -> Result<Text, NoMemory>
+pub fn explain(alloc: Global, parsed: &Parsed<'_>, from: u64, count: u32) -> Result<Text, NoMemory>
     requires { PartsFit parsed.now }
     ensures { IfOk result (λ text. text ≡ listing parsed.now from count) }
 {

@@ -20,11 +20,7 @@ pub enum Operands {
     /// Two registers and an offset in bytes: `x1, x2, -4`.
     Branch { rs1: u8, rs2: u8, offset: i32 },
     /// A register, and an address as a base and an offset in bytes: `x6, 2(x5)`.
-    Indexed {
-        register: u8,
-        offset: i32,
-        base: u8,
-    },
+    Indexed { register: u8, offset: i32, base: u8 },
     /// Two registers and an immediate: `x10, x0, 42`.
     Immediate { rd: u8, rs1: u8, imm: i32 },
     /// Three registers: `x5, x6, x7`.

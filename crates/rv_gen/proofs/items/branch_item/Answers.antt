@@ -1,4 +1,4 @@
-use Rattle.std.proofs.Common.{◌≡◌, ℕ, ◌+◌, ◌-◌, ◌*◌, ◌%◌, ◌^◌, ℤ, pos, ◌-ℤ◌, refl, ap, arith}
+use Rattle.std.proofs.Common.{refl}
 use Rattle.rv_gen.proofs.Binds.{bind_is}
 use Rattle.rv_gen.specs.Programs.{branch_item}
 use Rattle.rv_gen.proofs.items.branch_item.Goals as goal

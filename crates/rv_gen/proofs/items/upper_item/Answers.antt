@@ -1,4 +1,4 @@
-use Rattle.std.proofs.Common.{◌≡◌, ℕ, ◌+◌, ◌-◌, ◌*◌, ◌%◌, ◌^◌, ℤ, pos, ◌-ℤ◌, refl, ap, arith}
+use Rattle.std.proofs.Common.{ℕ, ap, arith}
 use Rattle.rv_gen.proofs.Binds.{bind_is}
 use Rattle.rv_base.specs.declared.instr.Instr.TheVariants.{Lui}
 use Rattle.rv_gen.specs.Programs.{upper_item}

@@ -1,5 +1,4 @@
-use Rattle.std.proofs.Common.{◌≡◌, ◌+◌, ◌*◌, ◌^◌, ◌<◌, ◌≤◌, length, ap, ◌∙◌, arith}
-use Rattle.rv_elf.specs.Written.{words_bytes}
+use Rattle.std.proofs.Common.{◌^◌, length, ap, arith}
 use Rattle.rv_gen.proofs.Lengths.{length-words, all_below}
 use Rattle.rv_gen.proofs.made.executable.Goals as goal
 

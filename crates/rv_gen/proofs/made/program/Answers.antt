@@ -1,4 +1,4 @@
-use Rattle.std.proofs.Common.{◌≡◌, ℕ, ◌/◌, ◌^◌, ◌<◌, List, subst, ap, ◌∙◌}
+use Rattle.std.proofs.Common.{ℕ, ◌/◌, ◌^◌, ◌<◌, List, subst, ap, ◌∙◌}
 use Rattle.std.specs.List.{AllByRecursion}
 use Rattle.rv_gen.specs.Programs.{executable_of}
 use Rattle.rv_gen.proofs.Lengths.{program_is}

@@ -1,4 +1,4 @@
-use Rattle.std.proofs.Common.{◌≡◌, ℕ, ◌+◌, ◌-◌, ◌*◌, ◌<◌, ◌≤◌, List, [], ◌++◌, length, subst, ap, ◌∙◌, arith}
+use Rattle.std.proofs.Common.{◌≡◌, ℕ, ◌+◌, ◌-◌, List, length, subst, ap, arith}
 use Rattle.rv_gen.specs.Words.{Adds}
 use Rattle.rv_gen.specs.Programs.{items, filled, front, back}
 use Rattle.rv_gen.proofs.Lengths.{adds-length, items-few, filled-length, code_adds}

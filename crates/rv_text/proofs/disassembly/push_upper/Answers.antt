@@ -1,4 +1,4 @@
-use Rattle.std.proofs.Common.{◌+◌, ◌≤◌, length, arith}
+use Rattle.std.proofs.Common.{◌≤◌, length, arith}
 use Rattle.rv_text.specs.Syntax.{hex}
 use Rattle.rv_text.proofs.Digits.{length-hex}
 use Rattle.rv_text.proofs.disassembly.push_upper.Goals as goal

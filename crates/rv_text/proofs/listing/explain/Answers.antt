@@ -1,4 +1,4 @@
-use Rattle.std.proofs.Common.{◌≡◌, ◌≤◌, arith, sym, ap, ◌∙◌}
+use Rattle.std.proofs.Common.{◌≤◌, arith, sym, ap, ◌∙◌}
 use Rattle.rv_base.specs.declared.record.Header.{Header}
 use Rattle.rv_text.proofs.ShardSteps.{nothing_listed, all_within}
 use Rattle.rv_text.proofs.listing.explain.Goals as goal

@@ -1,4 +1,4 @@
-use Rattle.std.proofs.Common.{◌≡◌, ◌++◌, ◌∷◌, [], List, ℕ, codes, decimal, string_bytes, ap, ◌∙◌}
+use Rattle.std.proofs.Common.{◌++◌, ◌∷◌, [], codes, decimal, string_bytes, ap, ◌∙◌}
 use Rattle.rv_text.specs.Listing.{access_line, cell_name, stamped}
 use Rattle.rv_text.proofs.Joined.{access_joined}
 use Rattle.rv_text.proofs.listing.push_access.Goals as goal

@@ -1,8 +1,6 @@
-use Rattle.std.proofs.Common.{◌≡◌, ℕ, ◌++◌, ◌+◌, List, drop, take, string_bytes, sym, ap, ◌∙◌, arith}
-use Rattle.std.specs.List.{flat_map}
+use Rattle.std.proofs.Common.{string_bytes, sym, ◌∙◌, arith}
 use Rattle.std.proofs.lemmas.List.{append-nil}
-use Rattle.rv_spec.specs.Trace.{Row}
-use Rattle.rv_spec.specs.Record.{row_bytes, row_length}
+use Rattle.rv_spec.specs.Record.{row_length}
 use Rattle.rv_row.specs.RowReading.{row_view}
 use Rattle.rv_text.specs.Within.{lines_within}
 use Rattle.rv_text.proofs.RowSteps.{take_rest, not_row, row_there, row_step}

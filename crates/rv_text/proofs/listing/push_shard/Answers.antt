@@ -1,12 +1,11 @@
-use Rattle.std.proofs.Common.{◌≡◌, ℕ, ◌+◌, ◌*◌, ◌<◌, ◌≤◌, ◌++◌, List, Some, OnOk, option_map, option_copied, slice_get, length, drop, string_bytes, refl, sym, ap, subst, ◌∙◌, arith}
-use Rattle.std.specs.List.{flat_map}
+use Rattle.std.proofs.Common.{◌≡◌, ℕ, ◌+◌, ◌*◌, ◌<◌, ◌≤◌, ◌++◌, List, Some, OnOk, option_map, slice_get, length, drop, string_bytes, sym, ap, subst, ◌∙◌, arith}
 use Rattle.rv_base.specs.declared.record.Header.{Header}
 use Rattle.rv_spec.specs.Digest.{set_digest_bytes}
-use Rattle.rv_spec.specs.Record.{Shard, Parts, shard_bytes, shard_rows, row_bytes}
+use Rattle.rv_spec.specs.Record.{Shard, Parts, shard_bytes, shard_rows}
 use Rattle.rv_spec.specs.Grammar.{PartsFit, ShardFits}
 use Rattle.rv_text.specs.Within.{lines_within}
 use Rattle.rv_text.proofs.RowSteps.{take_rest}
-use Rattle.rv_text.proofs.Shards.{ShardAt, shard_at, head_apart}
+use Rattle.rv_text.proofs.Shards.{shard_at, head_apart}
 use Rattle.rv_text.proofs.listing.push_shard.Goals as goal
 
 -- the bytes that were shown are those of the shard

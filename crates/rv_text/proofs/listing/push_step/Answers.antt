@@ -1,6 +1,6 @@
-use Rattle.std.proofs.Common.{◌≡◌, ◌++◌, ◌∷◌, [], List, ℕ, codes, decimal, string_bytes, ap, ◌∙◌}
+use Rattle.std.proofs.Common.{◌++◌, ◌∷◌, [], List, ℕ, codes, decimal, string_bytes, ap, ◌∙◌}
 use Rattle.rv_row.specs.RowReading.{row_view}
-use Rattle.rv_text.specs.Listing.{step_line, hex8, word_text, word_of}
+use Rattle.rv_text.specs.Listing.{step_line, hex8, word_text}
 use Rattle.rv_text.proofs.Joined.{step_joined}
 use Rattle.rv_text.proofs.listing.push_step.Goals as goal
 

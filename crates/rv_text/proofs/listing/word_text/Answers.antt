@@ -1,4 +1,4 @@
-use Rattle.std.proofs.Common.{◌≡◌, ◌==◌, Bool, true, false, if◌then◌else◌, Option, Some, None, option_map, List, ℕ, ap, sym, ◌∙◌, eq-eqb, ne_eqb, arith}
+use Rattle.std.proofs.Common.{◌≡◌, Bool, if◌then◌else◌, None, List, ℕ, ap, sym, ◌∙◌, eq-eqb, ne_eqb, arith}
 use Rattle.rv_text.specs.Syntax.{disassembly, atomic_disassembly}
 use Rattle.rv_text.specs.Listing.{word_text, or_plain}
 use Rattle.rv_text.proofs.listing.word_text.Goals as goal
@@ -16,7 +16,7 @@ pub returns : goal.returns
 unfolding word_text
 returns c =
     elim c.if-version-eq-WITH_ATOMICS.branch [
-      then-version-eq-WITH_ATOMICS+in_default w ↦
-      c.disasm.ensures ∙ ap (or_plain c.args.word) (let e : None ≡ atomic_disassembly c.args.word = grind arith in e) ∙ sym (ap (chosen c.args.word) (eq-eqb c.args.version 2 w.if-version-eq-WITH_ATOMICS.true))
-    | else-version-eq-WITH_ATOMICS w ↦ c.disasm.ensures ∙ sym (ap (chosen c.args.word) (ne_eqb c.args.version 2 w.if-version-eq-WITH_ATOMICS.false))
+      | then-version-eq-WITH_ATOMICS+in_default w ↦
+          c.disasm.ensures ∙ ap (or_plain c.args.word) (let e : None ≡ atomic_disassembly c.args.word = grind arith in e) ∙ sym (ap (chosen c.args.word) (eq-eqb c.args.version 2 w.if-version-eq-WITH_ATOMICS.true))
+      | else-version-eq-WITH_ATOMICS w ↦ c.disasm.ensures ∙ sym (ap (chosen c.args.word) (ne_eqb c.args.version 2 w.if-version-eq-WITH_ATOMICS.false))
     ]

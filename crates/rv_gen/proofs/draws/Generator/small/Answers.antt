@@ -1,4 +1,4 @@
-use Rattle.std.proofs.Common.{◌≡◌, ℕ, ◌+◌, ◌-◌, ◌*◌, ◌%◌, ◌^◌, ℤ, pos, ◌-ℤ◌, refl, ap, arith}
+use Rattle.std.proofs.Common.{ℤ, ap, arith}
 use Rattle.rv_gen.proofs.Binds.{bind_is}
 use Rattle.std.proofs.lemmas.Int.{ints}
 use Rattle.rv_gen.specs.Programs.{small}
