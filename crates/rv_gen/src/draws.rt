@@ -6,10 +6,10 @@ ghost use Rattle.rv_gen.specs.Draws.{draw as draw_of};
 ghost use Rattle.rv_gen.specs.Programs.{pool as pool_of, small as small_of, offset as offset_of};
 
 /// The first register of the pool.
-const POOL_START: u8 = 18;
+pub const POOL_START: u8 = 18;
 
 /// The registers of the pool, x18 to x27.
-const POOL_REGISTERS: u32 = 10;
+pub const POOL_REGISTERS: u8 = 10;
 
 /// The state of the generator.
 #[derive(Debug, Drop)]
@@ -38,7 +38,7 @@ impl Generator {
         ensures drawn { (result, self.new.state) ≡ pool_of self.old.state }
         ensures range { result < 32 }
     {
-        POOL_START + self.draw(POOL_REGISTERS) as u8
+        POOL_START + self.draw(POOL_REGISTERS as u32) as u8
     }
 
     /// A signed number of 12 bits.

@@ -7,7 +7,7 @@ ghost use Rattle.rv_decode.specs.Ranges.{IsEncodable, IsOffset, IsRegister, IsSi
 ghost use Rattle.rv_gen.specs.Programs.{li as li_of, call_item as call_item_of, item as item_of, items as items_of, word as word_of, filled as filled_of, front as front_of, back as back_of, code as code_of};
 ghost use Rattle.rv_gen.specs.Words.{decoded, Adds, AddsDrawn};
 
-use crate::draws::Generator;
+use crate::draws::{Generator, POOL_REGISTERS, POOL_START};
 use crate::items::{DATA_BASE, single_item};
 use rv_base::machine::{EXIT_CALL, READ};
 use rv_base::{Cond, Instr, Op};
@@ -19,11 +19,6 @@ const DATA_START: u32 = 0x2_0000;
 
 /// The register that counts the rounds.
 const ROUNDS_REGISTER: u8 = 9;
-
-/// The first of the registers that the items use, and their number.
-const POOL_START: u8 = 18;
-
-const POOL_REGISTERS: u8 = 10;
 
 /// The items of the body.
 const ITEMS: u32 = 32;

@@ -7,7 +7,7 @@ mod syntax;
 
 pub use disassembly::{disasm, disasm_atomic};
 pub use listing::explain;
-pub use syntax::{Operands, Syntax, atomic_syntax_of, syntax_of};
+pub use syntax::{MNEMONIC_BYTES, Operands, Syntax, atomic_syntax_of, syntax_of};
 
 #[cfg(test)]
 mod tests;
