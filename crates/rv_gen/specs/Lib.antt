@@ -1,0 +1,6 @@
+-- draws
+pub mod Draws
+-- words that spell instructions
+pub mod Words
+-- generated programs
+pub mod Programs

@@ -1,0 +1,93 @@
+-- Where the rows of each shard lie among all rows.
+use Rattle.std.proofs.Common.{◌≡◌, ℕ, zero, suc, ◌+◌, ◌-◌, ◌*◌, ◌<◌, ◌≤◌, List, [], ◌∷◌, ◌++◌, length, take, drop, Some, slice_get, ◌^◌, refl, sym, ap, subst, ◌∙◌, append_assoc, length-append, arith}
+use Rattle.std.specs.List.{flat_map}
+use Rattle.std.proofs.Math.Nat.{mul-le-mul_right}
+use Rattle.std.proofs.lemmas.Grind.{div_ceil_times}
+use Rattle.rv_base.specs.declared.record.Header.{Header}
+use Rattle.rv_spec.specs.Trace.{Row}
+use Rattle.rv_base.specs.declared.record.ShardHead.{ShardHead}
+use Rattle.std.proofs.lemmas.List.{drop_at}
+use Rattle.rv_spec.specs.Digest.{set_digest_bytes}
+use Rattle.rv_spec.specs.Record.{Shard, Parts, head_bytes, row_bytes, shard_bytes}
+use Rattle.rv_spec.specs.Grammar.{ShardFits, ShardsFit, PartsFit}
+
+abbrev pub rows_in : List Shard → List Row
+rows_in ss = flat_map (λ s. s.rows) ss
+
+-- no more rows than steps
+pub rows_most : (h : Header) (i : ℕ) (ss : List Shard) → ShardsFit h i ss → length (rows_in ss) ≤ h.steps - i * h.size
+rows_most h i [] fit = omega arith
+rows_most h i (s ∷ ss) fit =
+    omega (arith, length-append s.rows (rows_in ss), rows_most h (i + 1) ss fit.1, fit.0.count, fit.0.rows)
+
+-- no more than a shard's size in each shard
+pub rows_before : (h : Header) (i : ℕ) (ss : List Shard) (k : ℕ) → ShardsFit h i ss → length (rows_in (take k ss)) ≤ k * h.size
+rows_before h i ss zero fit = omega arith
+rows_before h i [] (suc k) fit = omega arith
+rows_before h i (s ∷ ss) (suc k) fit =
+    omega (arith, length-append s.rows (rows_in (take k ss)), rows_before h (i + 1) ss k fit.1, fit.0.count, fit.0.rows)
+
+-- each shard but the last is full
+pub rows_exact : (h : Header) (i : ℕ) (ss : List Shard) (k : ℕ) → ShardsFit h i ss → k < length ss → (i + k) * h.size < h.steps → length (rows_in (take k ss)) ≡ k * h.size
+rows_exact h i ss zero fit lt more = omega arith
+rows_exact h i [] (suc k) fit lt more = absurd (omega arith)
+rows_exact h i (s ∷ ss) (suc k) fit lt more =
+    let others : length (rows_in (take k ss)) ≡ k * h.size = rows_exact h (i + 1) ss k fit.1 (omega arith) (omega arith) in
+    omega (arith, length-append s.rows (rows_in (take k ss)), others, fit.0.count, fit.0.rows)
+
+-- a shard at a place
+pub record ShardAt (h : Header) (ss : List Shard) (i j : ℕ) (s : Shard) : Type 0 where
+  pub found : slice_get ss j ≡ Some s
+  pub fits : ShardFits h (i + j) s
+  pub front : take (j + 1) ss ≡ take j ss ++ s ∷ []
+
+pub shard_at : (h : Header) (i : ℕ) (ss : List Shard) (j : ℕ) → j < length ss → ShardsFit h i ss → (s : Shard) × ShardAt h ss i j s
+shard_at h i [] j lt fit = absurd (omega arith)
+shard_at h i (s ∷ ss) zero lt fit =
+    let same : i ≡ i + 0 = omega arith in
+    (s, record { found = refl; fits = subst (λ k. ShardFits h k s) same fit.0; front = refl })
+shard_at h i (s ∷ ss) (suc j) lt fit =
+    let more = shard_at h (i + 1) ss j (omega arith) fit.1 in
+    let same : i + 1 + j ≡ i + suc j = omega arith in
+    let next : suc j + 1 ≡ suc (j + 1) = omega arith in (
+      more.0,
+      record {
+        found = more.1.found;
+        fits = subst (λ k. ShardFits h k more.0) same more.1.fits;
+        front = ap (λ k. take k (s ∷ ss)) next ∙ ap (λ t. s ∷ t) more.1.front;
+      },
+    )
+
+-- the steps, by the shards
+pub record Sized (h : Header) : Type 0 where
+  pub most : h.steps ≤ h.shards * h.size
+  pub less : (k : ℕ) → k < h.shards → k * h.size < h.steps
+  pub within : h.steps ≤ 2 ^ 32
+
+pub sized : (p : Parts) → PartsFit p → Sized p.header
+sized p fit =
+    let h = p.header in
+    let ceil = div_ceil_times h.steps h.size (omega (arith, fit.header.size)) in
+    let most : h.steps ≤ h.shards * h.size = subst (λ n. h.steps ≤ n * h.size) (sym fit.header.shards) ceil.0 in
+    let least : h.shards * h.size < h.steps + h.size = subst (λ n. n * h.size < h.steps + h.size) (sym fit.header.shards) ceil.1 in
+    record {
+      most = most;
+      less = λ k lt. (let grown : (k + 1) * h.size ≤ h.shards * h.size = mul-le-mul_right h.size (omega arith) in omega (arith, grown, least));
+      within = (
+          let one : h.shards * h.size ≤ 65536 * h.size = mul-le-mul_right h.size fit.header.shards_within in
+          omega (arith, most, one, fit.header.size.1)
+          );
+    }
+
+length-head : (h : ShardHead) → length (head_bytes h) ≡ 32
+unfolding head_bytes
+length-head h = refl
+
+-- the rows lie behind the head
+pub head_apart : (s : Shard) → (32 ≤ length (shard_bytes s)) × (drop 32 (shard_bytes s) ≡ flat_map row_bytes s.rows ++ (set_digest_bytes s.reads ++ set_digest_bytes s.writes))
+unfolding shard_bytes
+head_apart s =
+    let rows = flat_map row_bytes s.rows in
+    let tail = set_digest_bytes s.reads ++ set_digest_bytes s.writes in
+    let is : shard_bytes s ≡ head_bytes s.head ++ (rows ++ tail) = simp append_assoc in
+    (omega (arith, ap length is, length-append (head_bytes s.head) (rows ++ tail), length-head s.head), ap (λ (l : List ℕ). drop 32 l) is ∙ drop_at (head_bytes s.head) (rows ++ tail) 32 (length-head s.head))
