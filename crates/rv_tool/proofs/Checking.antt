@@ -14,6 +14,7 @@ use Rattle.rv_rules.specs.Verdict.{judge, verdict}
 use Rattle.rv_elf.specs.Faults.{number_of}
 use Rattle.rv_elf.specs.declared.fault.ElfFault.{ElfFault}
 use Rattle.rv_host.specs.Views.{ShelfView}
+use Rattle.rv_program.specs.Files.{Files as Opened}
 use Rattle.rv_judge.specs.Conclusions.{IsSound}
 use Rattle.rv_settle.specs.Settling.{IsSettled}
 use Rattle.rv_settle.specs.declared.settling.Settled.{Settled as Settling}
@@ -44,6 +45,13 @@ told_behind p s s' o (Err f) same none h done = subst (λ x. PerformsBehind p s 
 
 written_nothing : (s s' : ShelfView) (o : Outcome) → IsUnchanged s s' → o.writes ≡ [] → IsWritten o.writes s s'
 written_nothing s s' o same none = subst (λ due. IsWritten due s s') (sym none) (nothing_written s s' (left same))
+
+-- what was opened is what was loaded
+pub judges_loaded : (name : List ℕ) (p : Opened) (elf input : List ℕ) (s s' : ShelfView) (r : Result Verdict Fault) → p ≡ record { elf = elf; input = input } → Judges name p.elf p.input s s' r → Judges name elf input s s' r
+judges_loaded name p elf input s s' r is h = subst (λ (q : Opened). Judges name q.elf q.input s s' r) is h
+
+pub settled_loaded : (p : Opened) (elf input file bytes : List ℕ) (x : Settling) → p ≡ record { elf = elf; input = input } → bytes ≡ file → IsSettled sha_lanes p.elf p.input bytes x → IsSettled sha_lanes elf input file x
+settled_loaded p elf input file bytes x is same h = subst (λ b. IsSettled sha_lanes elf input b x) same (subst (λ (q : Opened). IsSettled sha_lanes q.elf q.input bytes x) is h)
 
 -- ---- check
 
@@ -81,12 +89,12 @@ verdict_writes (Refuse r) = refl
 
 pub check_judged : (w : CheckWords) (s s' s'' : ShelfView) (l : Loaded) (v : Verdict) (r : Result Told Fault) → nat_lt 1 w.workers ≡ false → Loads w.elf w.input s s' (Ok l) → first_fault l.elf ≡ None → Judges w.file l.elf l.input s' s'' (Ok v) → TellsOutcome (told_verdict v) r
     → Performs (plan_of (check w)) s s'' r
-check_judged w s s' s'' l v r one h faultless judges tells =
-    subst (λ p. Performs p s s'' r) (alone w one) (performs_loaded w.elf w.input s s' s'' l (check_plan w) r h faultless (told_behind (check_plan w l.elf l.input) s' s'' (told_verdict v) r judges.0 (verdict_writes v) tells done))
+check_judged w s s' s'' l v r one h faultless judges says =
+    subst (λ p. Performs p s s'' r) (alone w one) (performs_loaded w.elf w.input s s' s'' l (check_plan w) r h faultless (told_behind (check_plan w l.elf l.input) s' s'' (told_verdict v) r judges.0 (verdict_writes v) says done))
   where
     done : (told : Told) → r ≡ Ok told → PerformsBehind (check_plan w l.elf l.input) s' s'' (Ok told)
     done told is =
-        let said : TellsOutcome (told_verdict v) (Ok told) = subst (TellsOutcome (told_verdict v)) is tells in
+        let said : TellsOutcome (told_verdict v) (Ok told) = subst (TellsOutcome (told_verdict v)) is says in
         (told_verdict v, (judges.1.0, judges.1.1, ap told_verdict judges.1.2), said.0, said.1, written_nothing s' s'' (told_verdict v) judges.0 (verdict_writes v))
 
 -- the file of an accepted record
@@ -99,15 +107,15 @@ sound_of elf input file (Accept steps shards e) status h = go h.1
     go (inr c) = inr c
 
 pub check_accepted : (w : CheckWords) (s s' s'' : ShelfView) (l : Loaded) (v : Verdict) (r : Result Told Fault) → Loads w.elf w.input s s' (Ok l) → Judges w.file l.elf l.input s' s'' (Ok v) → TellsOutcome (told_verdict v) r → IfOk r (λ told. told.status ≡ 0 → Accepted s.files w)
-check_accepted w s s' s'' l v (Err f) h judges tells = tt
-check_accepted w s s' s'' l v (Ok told) h judges tells status = record {
+check_accepted w s s' s'' l v (Err f) h judges says = tt
+check_accepted w s s' s'' l v (Ok told) h judges says = λ status. record {
   elf = l.elf;
   input = l.input;
   file = judges.1.0;
   elf_is = h.3;
   input_is = h.4;
   file_is = subst (λ files. IsContents files w.file judges.1.0) h.0.files judges.1.1;
-  sound = sound_of l.elf l.input judges.1.0 v (sym tells.0 ∙ status) judges.1.3;
+  sound = sound_of l.elf l.input judges.1.0 v (sym says.0 ∙ status) judges.1.3;
 }
 
 -- ---- settle
@@ -116,8 +124,8 @@ pub settle_faulty : (w : SettleWords) (s s' : ShelfView) (l : Loaded) (f : Fault
 settle_faulty w s s' l f h k = image_refused w.elf w.input s s' l (settle_plan w) f h k
 
 pub settle_unread : (w : SettleWords) (s s' s'' : ShelfView) (l : Loaded) (f : Fault) → Loads w.elf w.input s s' (Ok l) → first_fault l.elf ≡ None → ReadsWithin w.file RECORD_LIMIT limited.Record s' s'' (Err f) → Stops (plan_of (settle w)) s s'' f
-settle_unread w s s' s'' l f h faultless reads =
-    performs_loaded w.elf w.input s s' s'' l (settle_plan w) (Err f) h faultless (performs_behind (settle_plan w l.elf l.input) s' s'' (Err f) (read_stops w.file RECORD_LIMIT limited.Record s' s'' f _ reads))
+settle_unread w s s' s'' l f h faultless read =
+    performs_loaded w.elf w.input s s' s'' l (settle_plan w) (Err f) h faultless (performs_behind (settle_plan w l.elf l.input) s' s'' (Err f) (read_stops w.file RECORD_LIMIT limited.Record s' s'' f (λ bytes. answer (settled l.elf (judge sha_lanes l.elf l.input bytes))) read))
 
 outcome_writes : (x : Settling) → (settled_outcome x).writes ≡ []
 outcome_writes (Run steps) = refl
@@ -142,9 +150,9 @@ settled_is elf input file (Collision d) h =
 -- the contents that were read, and what settling them answered
 pub settle_settled : (w : SettleWords) (s s' s'' : ShelfView) (l : Loaded) (file : List ℕ) (x : Settling) (r : Result Told Fault) → Loads w.elf w.input s s' (Ok l) → first_fault l.elf ≡ None → ReadsWithin w.file RECORD_LIMIT limited.Record s' s'' (Ok file)
     → IsSettled sha_lanes l.elf l.input file x → TellsOutcome (settled_outcome x) r → Performs (plan_of (settle w)) s s'' r
-settle_settled w s s' s'' l file x r h faultless reads is says =
+settle_settled w s s' s'' l file x r h faultless read is says =
     performs_loaded w.elf w.input s s' s'' l (settle_plan w) r h faultless
-    (performs_behind (settle_plan w l.elf l.input) s' s'' r (performs_read w.file RECORD_LIMIT limited.Record s' s'' s'' file _ r reads (told_behind (answer (settled l.elf (judge sha_lanes l.elf l.input file))) s'' s'' (settled_outcome x) r still (outcome_writes x) says done)))
+    (performs_behind (settle_plan w l.elf l.input) s' s'' r (performs_read w.file RECORD_LIMIT limited.Record s' s'' s'' file (λ bytes. answer (settled l.elf (judge sha_lanes l.elf l.input bytes))) r read (told_behind (answer (settled l.elf (judge sha_lanes l.elf l.input file))) s'' s'' (settled_outcome x) r still (outcome_writes x) says done)))
   where
     still : IsUnchanged s'' s''
     still = record { files = refl; reads = λ _. refl; writes = λ _. refl }
@@ -154,9 +162,9 @@ settle_settled w s s' s'' l file x r h faultless reads is says =
         (settled_outcome x, settled_is l.elf l.input file x is, said.0, said.1, written_nothing s'' s'' (settled_outcome x) still (outcome_writes x))
 
 pub settle_no_memory : (w : SettleWords) (s s' s'' : ShelfView) (l : Loaded) (file : List ℕ) → Loads w.elf w.input s s' (Ok l) → first_fault l.elf ≡ None → ReadsWithin w.file RECORD_LIMIT limited.Record s' s'' (Ok file) → Stops (plan_of (settle w)) s s'' Memory
-settle_no_memory w s s' s'' l file h faultless reads =
+settle_no_memory w s s' s'' l file h faultless read =
     performs_loaded w.elf w.input s s' s'' l (settle_plan w) (Err Memory) h faultless
-    (performs_behind (settle_plan w l.elf l.input) s' s'' (Err Memory) (performs_read w.file RECORD_LIMIT limited.Record s' s'' s'' file _ (Err Memory) reads (record { files = refl; writes = λ _. refl })))
+    (performs_behind (settle_plan w l.elf l.input) s' s'' (Err Memory) (performs_read w.file RECORD_LIMIT limited.Record s' s'' s'' file (λ bytes. answer (settled l.elf (judge sha_lanes l.elf l.input bytes))) (Err Memory) read (record { files = refl; writes = λ _. refl })))
 
 run_settled : (elf input file : List ℕ) (x : Settling) → (settled_outcome x).status ≡ 0 → IsSettled sha_lanes elf input file x → IsRecordOfRun elf input file
 run_settled elf input file (Run steps) status h = record { version = h.0.header.version; size = h.0.header.size; steps = h.0.header.steps; end = h.0.header.end; is = h.1.record_of_run }
@@ -165,13 +173,13 @@ run_settled elf input file (Refused r) status h = absurd (eqb-false 1 0 refl sta
 
 pub settle_run : (w : SettleWords) (s s' s'' : ShelfView) (l : Loaded) (file : List ℕ) (x : Settling) (r : Result Told Fault) → Loads w.elf w.input s s' (Ok l) → ReadsWithin w.file RECORD_LIMIT limited.Record s' s'' (Ok file)
     → IsSettled sha_lanes l.elf l.input file x → TellsOutcome (settled_outcome x) r → IfOk r (λ told. told.status ≡ 0 → Settled s.files w)
-settle_run w s s' s'' l file x (Err f) h reads is says = tt
-settle_run w s s' s'' l file x (Ok told) h reads is says status = record {
+settle_run w s s' s'' l file x (Err f) h read is says = tt
+settle_run w s s' s'' l file x (Ok told) h read is says = λ status. record {
   elf = l.elf;
   input = l.input;
   file = file;
   elf_is = h.3;
   input_is = h.4;
-  file_is = subst (λ files. IsContents files w.file file) h.0.files reads.2;
+  file_is = subst (λ files. IsContents files w.file file) h.0.files read.2;
   settled = run_settled l.elf l.input file x (sym says.0 ∙ status) is;
 }

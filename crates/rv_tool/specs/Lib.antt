@@ -5,3 +5,4 @@ pub mod Differing
 pub mod Outcome
 pub mod Headline
 pub mod Judging
+pub mod Making

@@ -7,6 +7,7 @@ mod judging;
 mod lines;
 mod make;
 mod numbers;
+mod recording;
 mod run;
 mod settle;
 #[cfg(test)]

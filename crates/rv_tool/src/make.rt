@@ -1,20 +1,30 @@
-//! `make`: writes the record of a run.
+//! `make` and `make2`: write the record of a run.
 
-ghost use Rattle.std.specs.Prelude.{◌≡◌, IfOk};
+ghost use Rattle.std.specs.Prelude.{◌≡◌, IfOk, IfErr};
 ghost use Rattle.std.specs.Int.{IsInRange};
 ghost use Rattle.rv_plan.specs.FileCalls.{Performs};
+ghost use Rattle.rv_point.specs.PointsState.{IsSurvey};
 ghost use Rattle.rv_tool.specs.CommandLine as command;
 ghost use Rattle.rv_tool.specs.Commands.{make_words};
 ghost use Rattle.rv_tool.specs.Headline.{Made};
+ghost use Rattle.rv_tool.specs.Making.{IsNoSurvey};
 ghost use Rattle.rv_tool.specs.Outcome.{plan_of};
 
 use crate::commands::Make;
-use rv_base::limits::{BUDGET_LIMIT, SHARD_SIZE_LIMIT};
-use rv_host::Shelf;
-use rv_plan::{Fault, Told};
+use crate::recording::{record_is_accepted, write_record};
+use rv_base::limits::{BUDGET_LIMIT, SHARD_SIZE_LIMIT, WORKERS_LIMIT};
+use rv_digest::ShaLanes;
+use rv_elf::Image;
+use rv_host::{Gate, Shelf};
+use rv_plan::{Fault, Limited, Told, image_of, load};
+use rv_point::{Points, RunFault, survey};
+use rv_replay::ShardTask;
+use rv_team::{run_one, run_team};
 use std::alloc::Global;
+use std::sync::Wait;
+use std::thread::Threads;
 
-/// Makes the record, writes it to its file, and tells of it. All memory is taken before the file is touched.
+/// Makes the record by one worker, writes it to its file, and tells of it. All memory is taken before the file is touched.
 pub fn make<S: Shelf>(alloc: Global, words: &Make<'_>, shelf: &mut S) -> Result<Told, Fault>
     requires version { IsInRange 1 2 words.now.version }
     requires shard { IsInRange 1 SHARD_SIZE_LIMIT words.now.shard }
@@ -22,5 +32,76 @@ pub fn make<S: Shelf>(alloc: Global, words: &Make<'_>, shelf: &mut S) -> Result<
     ensures performs { Performs (plan_of (command.make (make_words words.now))) (S.view shelf.old) (S.view shelf.new) result }
     ensures headline { IfOk result (λ told. told.status ≡ 0 → Made (S.view shelf.old) (S.view shelf.new) (make_words words.now)) }
 {
-    Err(Fault::Memory)
+    let loaded = load(alloc, shelf, words.elf, words.input)?;
+    let image = image_of(loaded.elf.list(), words.version)?;
+    let points = survey_run(alloc, &image, loaded.input.list(), words.shard, words.budget)?;
+    let task = ShardTask::new(&points, ShaLanes);
+    let Ok(book) = run_one(alloc, &task, points.shards()) else {
+        return Err(Fault::Memory);
+    };
+    record_is_accepted(
+        words.version,
+        words.shard,
+        words.budget,
+        loaded.elf.list(),
+        loaded.input.list(),
+        &points,
+    );
+    let told = write_record(alloc, shelf, words, &loaded, &points, &book)?;
+    Ok(told)
+}
+
+/// What `make` does, by as many workers as the words ask for.
+pub fn make_by_team<R: Threads + Wait + Sync, S: Shelf, G: Gate>(
+    rt: &R,
+    alloc: Global,
+    words: &Make<'_>,
+    shelf: &mut S,
+    gate: &G,
+) -> Result<Told, Fault>
+    requires version { IsInRange 1 2 words.now.version }
+    requires workers { IsInRange 1 WORKERS_LIMIT words.now.workers }
+    requires shard { IsInRange 1 SHARD_SIZE_LIMIT words.now.shard }
+    requires budget { IsInRange 1 BUDGET_LIMIT words.now.budget }
+    ensures performs { Performs (plan_of (command.make (make_words words.now))) (S.view shelf.old) (S.view shelf.new) result }
+    ensures headline { IfOk result (λ told. told.status ≡ 0 → Made (S.view shelf.old) (S.view shelf.new) (make_words words.now)) }
+{
+    let loaded = load(alloc, shelf, words.elf, words.input)?;
+    let image = image_of(loaded.elf.list(), words.version)?;
+    let points = survey_run(alloc, &image, loaded.input.list(), words.shard, words.budget)?;
+    let task = ShardTask::new(&points, ShaLanes);
+    let Ok(book) = run_team(rt, alloc, &task, points.shards(), words.workers, gate) else {
+        return Err(Fault::Memory);
+    };
+    record_is_accepted(
+        words.version,
+        words.shard,
+        words.budget,
+        loaded.elf.list(),
+        loaded.input.list(),
+        &points,
+    );
+    let told = write_record(alloc, shelf, words, &loaded, &points, &book)?;
+    Ok(told)
+}
+
+/// The run in shards, or why there is no record of it.
+fn survey_run<'a>(
+    alloc: Global,
+    image: &Image<'a>,
+    input: &'a [u8],
+    shard: u32,
+    budget: u32,
+) -> Result<Points<'a>, Fault>
+    requires shard { IsInRange 1 SHARD_SIZE_LIMIT shard }
+    requires budget { IsInRange 1 BUDGET_LIMIT budget }
+    ensures ok { IfOk result (IsSurvey image.now input.now shard budget) }
+    ensures err { IfErr result (IsNoSurvey image.now input.now shard budget) }
+{
+    match survey(alloc, image, input, shard, u64::from(budget)) {
+        Ok(points) => Ok(points),
+        Err(RunFault::Budget) => Err(Fault::Budget(budget)),
+        Err(RunFault::Shards { .. }) => Err(Fault::Limit(Limited::Shards)),
+        Err(RunFault::NoMemory) => Err(Fault::Memory),
+    }
 }

@@ -10,7 +10,7 @@ ghost use Rattle.rv_tool.specs.Outcome.{plan, plan_of};
 
 use crate::check::check;
 use crate::commands::{Command, parse};
-use crate::make::make;
+use crate::make::{make, make_by_team};
 use crate::run::run;
 use crate::settle::settle;
 use rv_host::{Gate, Shelf, Sink};
@@ -44,18 +44,23 @@ pub fn needs_team(words: &[String]) -> bool
 /// - 9: the program can't do this yet
 ///
 /// The words are those after the program's own name.
-pub fn tool<R: Threads + Wait, S: Shelf, K: Sink, G: Gate>(
-    _rt: &R,
+pub fn tool<R: Threads + Wait + Sync, S: Shelf, K: Sink, G: Gate>(
+    rt: &R,
     alloc: Global,
     words: &[String],
     shelf: &mut S,
     out: &mut K,
-    _gate: &G,
+    gate: &G,
 ) -> u8
     ensures answers { Answers (plan (command (map string_bytes words.now))) (S.view shelf.old) (S.view shelf.new) (K.view out.old) (K.view out.new) result }
     ensures headline { result ≡ 0 → Headline (command (map string_bytes words.now)) (S.view shelf.old) (S.view shelf.new) }
 {
-    answer(alloc, words, shelf, out)
+    match parse(words) {
+        Some(Command::Make(make)) => {
+            tell(alloc, out, make_by_team(rt, alloc, &make, shelf, gate))
+        }
+        _ => answer(alloc, words, shelf, out),
+    }
 }
 
 /// What `tool` does where `needs_team` is false. It always returns.
