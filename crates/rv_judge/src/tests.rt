@@ -5,6 +5,7 @@ ghost use Rattle.rv_judge.specs.Subject.{IsChecked};
 
 use super::*;
 use rv_base::layout::HEADER_BYTES;
+use rv_base::rules::SHORT;
 use rv_base::{End, Header, TableEntry, Tuple};
 use rv_digest::{SetDigest, ShaLanes};
 use rv_file::{front_len, write_head, write_header};
@@ -240,8 +241,12 @@ fn record_in_three(alloc: Global, program: &Program<'_>) -> Result<Vec<u8>, Allo
     Ok(file)
 }
 
-/// The verdict on a file that comes byte by byte behind its front, or nothing where the front isn't all there.
-pub(crate) fn in_pieces<'a>(program: &'a Program<'a>, file: &'a [u8]) -> Option<Verdict> {
+/// The verdict on a file that comes byte by byte behind its front, and the refusal that was known before the end, or nothing where the
+/// front isn't all there.
+pub(crate) fn in_pieces<'a>(
+    program: &'a Program<'a>,
+    file: &'a [u8],
+) -> Option<(Verdict, Option<Refusal>)> {
     let Some(header) = file.first_chunk::<HEADER_BYTES>() else {
         return None;
     };
@@ -253,14 +258,23 @@ pub(crate) fn in_pieces<'a>(program: &'a Program<'a>, file: &'a [u8]) -> Option<
     for at in length..file.len() {
         judge.feed(&file[at..at + 1]);
     }
-    Some(judge.finish())
+    let known = judge.refused();
+    Some((judge.finish(), known))
+}
+
+/// What is known of a verdict before the file ends: a refusal that no more bytes would change.
+fn known_early(verdict: Verdict) -> Option<Refusal> {
+    match verdict {
+        Verdict::Refuse(refusal) if refusal.rule != SHORT => Some(refusal),
+        _ => None,
+    }
 }
 
 /// The refusal of a file, whole and in pieces, or nothing where it is accepted or the two differ.
 pub(crate) fn refusal<'a>(program: &'a Program<'a>, file: &'a [u8]) -> Option<Refusal> {
     let verdict = judge(program, file, ShaLanes);
     match in_pieces(program, file) {
-        Some(other) if other != verdict => None,
+        Some(other) if other != (verdict, known_early(verdict)) => None,
         _ => match verdict {
             Verdict::Refuse(refusal) => Some(refusal),
             Verdict::Accept { .. } => None,
@@ -294,9 +308,14 @@ fn the_record_is_accepted(rt: HostRuntime) -> Result<(), Fail> {
     let mut file = record(rt.alloc(), &program, &TABLE)?;
     assert_eq!(rt; file.len(), 719);
     assert_eq!(rt; judge(&program, &file, ShaLanes), ACCEPTED);
-    assert_eq!(rt; in_pieces(&program, &file), Some(ACCEPTED));
-    file[7] = b'2';
-    assert_eq!(rt; judge(&program, &file, ShaLanes), ACCEPTED);
+    assert_eq!(rt; in_pieces(&program, &file), Some((ACCEPTED, None)));
+    // Version 2 has all instructions of version 1, and a run of three steps is one shard of any greater size too.
+    for (at, byte) in [(7, b'2'), (136, 0x83), (137, 0x80)] {
+        if let Some(old) = file.get_mut(at) {
+            *old = byte;
+        }
+        assert_eq!(rt; judge(&program, &file, ShaLanes), ACCEPTED, "byte {at}");
+    }
     laws::verdicts_conclude();
     Ok(())
 }
@@ -335,12 +354,16 @@ fn places_of_shards(rt: HostRuntime) -> Result<(), Fail> {
         end: End { kind: 0, code: 42 },
     };
     assert_eq!(rt; judge(&program, &file, ShaLanes), accepted);
-    assert_eq!(rt; in_pieces(&program, &file), Some(accepted));
+    assert_eq!(rt; in_pieces(&program, &file), Some((accepted, None)));
     // The first address of shard 1 isn't the one behind shard 0.
     let file = with_bytes(file, &[(520, 8)]);
     for (length, rule) in [(543, 1), (544, 9), (1295, 9)] {
         let front = file.get(..length).ok_or("short")?;
-        assert_eq!(rt; refusal(&program, front), refused(1, 0, rule), "cut to {length}");
+        assert_eq!(rt;
+            refusal(&program, front),
+            refused(1, 0, rule),
+            "cut to {length}"
+        );
     }
     Ok(())
 }
@@ -382,23 +405,51 @@ fn parts_alone(rt: HostRuntime) -> Result<(), Fail> {
         output: 0,
     };
     let seen = check_shard(&program, &header, &[], shard, 0, &ShaLanes);
-    assert_eq!(rt; seen, Ok(ShardSeen {
-        head: ShardHead { index: 0, rows: 3, pc: 0x10000, input: 0, output: 0, bytes: 174 },
-        after,
-        reads: sum(&READS),
-        writes: sum(&WRITES),
-        used: 462,
-    }));
+    assert_eq!(rt;
+        seen,
+        Ok(ShardSeen {
+            head: ShardHead {
+                index: 0,
+                rows: 3,
+                pc: 0x10000,
+                input: 0,
+                output: 0,
+                bytes: 174
+            },
+            after,
+            reads: sum(&READS),
+            writes: sum(&WRITES),
+            used: 462,
+        })
+    );
     let table = file.get(635..).ok_or("short")?;
     let (last, first) = digests_of_table();
     let seen = check_table(&program, &header, table, &ShaLanes);
-    assert_eq!(rt; seen, Ok(TableSeen { entries: 5, reads: last, writes: first, used: 84 }));
+    assert_eq!(rt;
+        seen,
+        Ok(TableSeen {
+            entries: 5,
+            reads: last,
+            writes: first,
+            used: 84
+        })
+    );
     let mut reads = sum(&READS);
     reads.add(&last);
     let mut writes = sum(&WRITES);
     writes.add(&first);
-    assert_eq!(rt; check_end(&header, after, &reads, &writes, 5, false), ACCEPTED);
-    let trailing = Verdict::Refuse(Refusal { shard: 1, row: 5, rule: 27 });
-    assert_eq!(rt; check_end(&header, after, &reads, &writes, 5, true), trailing);
+    assert_eq!(rt;
+        check_end(&header, after, &reads, &writes, 5, false),
+        ACCEPTED
+    );
+    let trailing = Verdict::Refuse(Refusal {
+        shard: 1,
+        row: 5,
+        rule: 27,
+    });
+    assert_eq!(rt;
+        check_end(&header, after, &reads, &writes, 5, true),
+        trailing
+    );
     Ok(())
 }

@@ -1,7 +1,9 @@
 //! The worked record with some of its bytes changed.
 
-use crate::tests::{ELF, READS, TABLE, WRITES, digest, header_of, push_shard, record, refusal, refused, with_bytes};
 use crate::Refusal;
+use crate::tests::{
+    ELF, READS, TABLE, WRITES, digest, header_of, push_shard, record, refusal, refused, with_bytes,
+};
 use rv_base::TableEntry;
 use rv_file::write_header;
 use rv_program::Program;
@@ -139,7 +141,11 @@ fn changed_records(rt: HostRuntime) -> Result<(), Fail> {
         ([(136, 4), (140, 4), (177, 4)], 0, 2, 18),
     ] {
         let file = with_bytes(record(rt.alloc(), &program, &TABLE)?, &changes);
-        assert_eq!(rt; refusal(&program, &file), refused(shard, row, rule), "rule {rule}");
+        assert_eq!(rt;
+            refusal(&program, &file),
+            refused(shard, row, rule),
+            "rule {rule}"
+        );
     }
     let mut file = record(rt.alloc(), &program, &TABLE)?;
     file.truncate(307);
@@ -191,7 +197,10 @@ fn another_exit_code(rt: HostRuntime) -> Result<(), Fail> {
 }
 
 /// `lui x5, 0x20`, `lr.w x6, (x5)` and `sc.w x7, x6, (x5)`, and the rows of the first two.
-const ATOMIC_WORDS: [u8; 12] = [0xB7, 0x02, 0x02, 0x00, 0x2F, 0xA3, 0x02, 0x10, 0xAF, 0xA3, 0x62, 0x18];
+const ATOMIC_WORDS: [u8; 12] = [
+    0xB7, 0x02, 0x02, 0x00, 0x2F, 0xA3, 0x02, 0x10, 0xAF, 0xA3, 0x62, 0x18,
+];
+
 const ATOMIC_ROWS: [u8; 165] = [
     0, 0, 1, 0, 4, 0, 1, 0, 2, //
     1, 0, 64, 0, 0, 0xB7, 2, 2, 0, 0, 0, 0, 0, 0, 0, 0, 0, 0xB7, 2, 2, 0, //
