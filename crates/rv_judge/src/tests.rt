@@ -391,6 +391,13 @@ fn digests_of_table() -> (SetDigest, SetDigest) {
     (last, first)
 }
 
+/// The place behind the last row: the run ends on its last instruction.
+const AFTER: Place = Place {
+    pc: 0x10008,
+    input: 0,
+    output: 0,
+};
+
 #[test]
 fn parts_alone(rt: HostRuntime) -> Result<(), Fail> {
     let program = Program::open(&ELF, &[])?;
@@ -399,11 +406,6 @@ fn parts_alone(rt: HostRuntime) -> Result<(), Fail> {
     assert_eq!(rt; header, header_of(&program, 3, 1));
     assert!(rt; header.length == 0 && header.shards == 1);
     let shard = file.get(173..).ok_or("short")?;
-    let after = Place {
-        pc: 0x10008,
-        input: 0,
-        output: 0,
-    };
     let seen = check_shard(&program, &header, &[], shard, 0, &ShaLanes);
     assert_eq!(rt;
         seen,
@@ -416,7 +418,7 @@ fn parts_alone(rt: HostRuntime) -> Result<(), Fail> {
                 output: 0,
                 bytes: 174
             },
-            after,
+            after: AFTER,
             reads: sum(&READS),
             writes: sum(&WRITES),
             used: 462,
@@ -434,12 +436,20 @@ fn parts_alone(rt: HostRuntime) -> Result<(), Fail> {
             used: 84
         })
     );
+    Ok(())
+}
+
+#[test]
+fn the_end_alone(rt: HostRuntime) -> Result<(), Fail> {
+    let program = Program::open(&ELF, &[])?;
+    let header = header_of(&program, 3, 1);
+    let (last, first) = digests_of_table();
     let mut reads = sum(&READS);
     reads.add(&last);
     let mut writes = sum(&WRITES);
     writes.add(&first);
     assert_eq!(rt;
-        check_end(&header, after, &reads, &writes, 5, false),
+        check_end(&header, AFTER, &reads, &writes, 5, false),
         ACCEPTED
     );
     let trailing = Verdict::Refuse(Refusal {
@@ -448,7 +458,7 @@ fn parts_alone(rt: HostRuntime) -> Result<(), Fail> {
         rule: 27,
     });
     assert_eq!(rt;
-        check_end(&header, after, &reads, &writes, 5, true),
+        check_end(&header, AFTER, &reads, &writes, 5, true),
         trailing
     );
     Ok(())
