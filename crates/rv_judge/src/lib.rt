@@ -15,6 +15,8 @@ mod sums;
 mod table;
 #[cfg(test)]
 mod tests;
+#[cfg(test)]
+mod tests_of_changes;
 mod whole;
 
 pub use alone::{ShardSeen, TableSeen, check_end, check_shard, check_table};

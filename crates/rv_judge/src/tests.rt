@@ -1,19 +1,20 @@
 //! The worked record of three instructions, whole, cut and changed.
 
-ghost use Rattle.std.specs.Prelude.{◌≡◌};
+ghost use Rattle.std.specs.Prelude.{◌≡◌, IfSome};
+ghost use Rattle.rv_judge.specs.Subject.{IsChecked};
 
 use super::*;
 use rv_base::layout::HEADER_BYTES;
+use rv_base::rules::SHORT;
 use rv_base::{End, Header, TableEntry, Tuple};
-use rv_digest::{SetDigest, ShaLanes, TinyLanes};
+use rv_digest::{SetDigest, ShaLanes};
 use rv_file::{front_len, write_head, write_header};
 use rv_program::{Program, check_front};
 use std::alloc::{AllocError, Global};
-use std::process::Abort;
 use std::test::Fail;
 
 /// The program of three instructions at 0x10000: `li a0, 42`, `li a7, 93` and `ecall`.
-const ELF: [u8; 96] = [
+pub(crate) const ELF: [u8; 96] = [
     0x7F, 0x45, 0x4C, 0x46, 1, 1, 1, 0, 0, 0, 0, 0, 0, 0, 0, 0, //
     2, 0, 243, 0, 1, 0, 0, 0, 0, 0, 1, 0, 52, 0, 0, 0, //
     0, 0, 0, 0, 0, 0, 0, 0, 52, 0, 32, 0, 1, 0, 0, 0, //
@@ -33,7 +34,7 @@ const ROWS: [u8; 174] = [
 ];
 
 /// What the rows read, and what they write.
-const READS: [Tuple; 7] = [
+pub(crate) const READS: [Tuple; 7] = [
     Tuple {
         cell: 0x4000,
         value: 0x02A0_0513,
@@ -71,7 +72,7 @@ const READS: [Tuple; 7] = [
     },
 ];
 
-const WRITES: [Tuple; 7] = [
+pub(crate) const WRITES: [Tuple; 7] = [
     Tuple {
         cell: 0x4000,
         value: 0x02A0_0513,
@@ -109,7 +110,7 @@ const WRITES: [Tuple; 7] = [
     },
 ];
 
-const TABLE: [TableEntry; 5] = [
+pub(crate) const TABLE: [TableEntry; 5] = [
     TableEntry {
         cell: 0x4000,
         value: 0x02A0_0513,
@@ -138,7 +139,7 @@ const TABLE: [TableEntry; 5] = [
 ];
 
 /// The header of the record in shards of so many rows.
-fn header_of(program: &Program<'_>, size: u32, shards: u32) -> Header
+pub(crate) fn header_of(program: &Program<'_>, size: u32, shards: u32) -> Header
     ensures { result.version ≡ 1 }
 {
     Header {
@@ -154,14 +155,18 @@ fn header_of(program: &Program<'_>, size: u32, shards: u32) -> Header
     }
 }
 
-fn digest(tuples: &[Tuple]) -> [u8; 128] {
+fn sum(tuples: &[Tuple]) -> SetDigest {
     let mut digest = SetDigest::zero();
     digest.add_tuples(&ShaLanes, tuples);
-    digest.to_bytes()
+    digest
+}
+
+pub(crate) fn digest(tuples: &[Tuple]) -> [u8; 128] {
+    sum(tuples).to_bytes()
 }
 
 /// Appends a shard: its index, its first pc, and its rows with their number and their tuples.
-fn push_shard(
+pub(crate) fn push_shard(
     file: &mut Vec<u8>,
     place: (u32, u32),
     rows: (u32, &[u8]),
@@ -195,7 +200,7 @@ fn push_table(file: &mut Vec<u8>, entries: &[TableEntry]) -> Result<(), AllocErr
 }
 
 /// The record in one shard, with this table.
-fn record(
+pub(crate) fn record(
     alloc: Global,
     program: &Program<'_>,
     table: &[TableEntry],
@@ -236,8 +241,12 @@ fn record_in_three(alloc: Global, program: &Program<'_>) -> Result<Vec<u8>, Allo
     Ok(file)
 }
 
-/// The verdict on a file that comes byte by byte behind its front, or nothing where the front isn't all there.
-fn in_pieces<'a>(program: &'a Program<'a>, file: &'a [u8]) -> Option<Verdict> {
+/// The verdict on a file that comes byte by byte behind its front, and the refusal that was known before the end, or nothing where the
+/// front isn't all there.
+pub(crate) fn in_pieces<'a>(
+    program: &'a Program<'a>,
+    file: &'a [u8],
+) -> Option<(Verdict, Option<Refusal>)> {
     let Some(header) = file.first_chunk::<HEADER_BYTES>() else {
         return None;
     };
@@ -249,14 +258,23 @@ fn in_pieces<'a>(program: &'a Program<'a>, file: &'a [u8]) -> Option<Verdict> {
     for at in length..file.len() {
         judge.feed(&file[at..at + 1]);
     }
-    Some(judge.finish())
+    let known = judge.refused();
+    Some((judge.finish(), known))
+}
+
+/// What is known of a verdict before the file ends: a refusal that no more bytes would change.
+fn known_early(verdict: Verdict) -> Option<Refusal> {
+    match verdict {
+        Verdict::Refuse(refusal) if refusal.rule != SHORT => Some(refusal),
+        _ => None,
+    }
 }
 
 /// The refusal of a file, whole and in pieces, or nothing where it is accepted or the two differ.
-fn refusal<'a>(program: &'a Program<'a>, file: &'a [u8]) -> Option<Refusal> {
+pub(crate) fn refusal<'a>(program: &'a Program<'a>, file: &'a [u8]) -> Option<Refusal> {
     let verdict = judge(program, file, ShaLanes);
     match in_pieces(program, file) {
-        Some(other) if other != verdict => None,
+        Some(other) if other != (verdict, known_early(verdict)) => None,
         _ => match verdict {
             Verdict::Refuse(refusal) => Some(refusal),
             Verdict::Accept { .. } => None,
@@ -264,7 +282,7 @@ fn refusal<'a>(program: &'a Program<'a>, file: &'a [u8]) -> Option<Refusal> {
     }
 }
 
-fn refused(shard: u32, row: u32, rule: u8) -> Option<Refusal> {
+pub(crate) fn refused(shard: u32, row: u32, rule: u8) -> Option<Refusal> {
     Some(Refusal { shard, row, rule })
 }
 
@@ -274,15 +292,30 @@ const ACCEPTED: Verdict = Verdict::Accept {
     end: End { kind: 0, code: 42 },
 };
 
+/// A file with other bytes at some places.
+pub(crate) fn with_bytes(mut file: Vec<u8>, changes: &[(usize, u8)]) -> Vec<u8> {
+    for (at, byte) in changes.iter().copied() {
+        if let Some(old) = file.get_mut(at) {
+            *old = byte;
+        }
+    }
+    file
+}
+
 #[test]
 fn the_record_is_accepted(rt: HostRuntime) -> Result<(), Fail> {
     let program = Program::open(&ELF, &[])?;
     let mut file = record(rt.alloc(), &program, &TABLE)?;
     assert_eq!(rt; file.len(), 719);
     assert_eq!(rt; judge(&program, &file, ShaLanes), ACCEPTED);
-    assert_eq!(rt; in_pieces(&program, &file), Some(ACCEPTED));
-    file[7] = b'2';
-    assert_eq!(rt; judge(&program, &file, ShaLanes), ACCEPTED);
+    assert_eq!(rt; in_pieces(&program, &file), Some((ACCEPTED, None)));
+    // Version 2 has all instructions of version 1, and a run of three steps is one shard of any greater size too.
+    for (at, byte) in [(7, b'2'), (136, 0x83), (137, 0x80)] {
+        if let Some(old) = file.get_mut(at) {
+            *old = byte;
+        }
+        assert_eq!(rt; judge(&program, &file, ShaLanes), ACCEPTED, "byte {at}");
+    }
     laws::verdicts_conclude();
     Ok(())
 }
@@ -307,5 +340,126 @@ fn cut_records(rt: HostRuntime) -> Result<(), Fail> {
             "cut to {cut}"
         );
     }
+    Ok(())
+}
+
+#[test]
+fn places_of_shards(rt: HostRuntime) -> Result<(), Fail> {
+    let program = Program::open(&ELF, &[])?;
+    let file = record_in_three(rt.alloc(), &program)?;
+    assert_eq!(rt; file.len(), 1295);
+    let accepted = Verdict::Accept {
+        steps: 3,
+        shards: 3,
+        end: End { kind: 0, code: 42 },
+    };
+    assert_eq!(rt; judge(&program, &file, ShaLanes), accepted);
+    assert_eq!(rt; in_pieces(&program, &file), Some((accepted, None)));
+    // The first address of shard 1 isn't the one behind shard 0.
+    let file = with_bytes(file, &[(520, 8)]);
+    for (length, rule) in [(543, 1), (544, 9), (1295, 9)] {
+        let front = file.get(..length).ok_or("short")?;
+        assert_eq!(rt;
+            refusal(&program, front),
+            refused(1, 0, rule),
+            "cut to {length}"
+        );
+    }
+    Ok(())
+}
+
+/// The header of a file that breaks no check of headers.
+fn header_in(program: &Program<'_>, file: &[u8]) -> Option<Header>
+    ensures { IfSome result (λ h. IsChecked h) }
+{
+    match check_front(program, file) {
+        Ok(header) => Some(header),
+        Err(_) => None,
+    }
+}
+
+/// The digests of what is read at the end, and of what is written before the first step.
+fn digests_of_table() -> (SetDigest, SetDigest) {
+    let mut last = SetDigest::zero();
+    let mut first = SetDigest::zero();
+    for TableEntry { cell, value, time } in TABLE {
+        last.add_tuple(&ShaLanes, Tuple { cell, value, time });
+        let value = if cell < 0x4000_0000 { value } else { 0 };
+        let time = 0;
+        first.add_tuple(&ShaLanes, Tuple { cell, value, time });
+    }
+    (last, first)
+}
+
+/// The place behind the last row: the run ends on its last instruction.
+const AFTER: Place = Place {
+    pc: 0x10008,
+    input: 0,
+    output: 0,
+};
+
+#[test]
+fn parts_alone(rt: HostRuntime) -> Result<(), Fail> {
+    let program = Program::open(&ELF, &[])?;
+    let file = record(rt.alloc(), &program, &TABLE)?;
+    let header = header_in(&program, &file).ok_or("header")?;
+    assert_eq!(rt; header, header_of(&program, 3, 1));
+    assert!(rt; header.length == 0 && header.shards == 1);
+    let shard = file.get(173..).ok_or("short")?;
+    let seen = check_shard(&program, &header, &[], shard, 0, &ShaLanes);
+    assert_eq!(rt;
+        seen,
+        Ok(ShardSeen {
+            head: ShardHead {
+                index: 0,
+                rows: 3,
+                pc: 0x10000,
+                input: 0,
+                output: 0,
+                bytes: 174
+            },
+            after: AFTER,
+            reads: sum(&READS),
+            writes: sum(&WRITES),
+            used: 462,
+        })
+    );
+    let table = file.get(635..).ok_or("short")?;
+    let (last, first) = digests_of_table();
+    let seen = check_table(&program, &header, table, &ShaLanes);
+    assert_eq!(rt;
+        seen,
+        Ok(TableSeen {
+            entries: 5,
+            reads: last,
+            writes: first,
+            used: 84
+        })
+    );
+    Ok(())
+}
+
+#[test]
+fn the_end_alone(rt: HostRuntime) -> Result<(), Fail> {
+    let program = Program::open(&ELF, &[])?;
+    let header = header_of(&program, 3, 1);
+    let (last, first) = digests_of_table();
+    let mut reads = sum(&READS);
+    reads.add(&last);
+    let mut writes = sum(&WRITES);
+    writes.add(&first);
+    assert_eq!(rt;
+        check_end(&header, AFTER, &reads, &writes, 5, false),
+        ACCEPTED
+    );
+    let trailing = Verdict::Refuse(Refusal {
+        shard: 1,
+        row: 5,
+        rule: 27,
+    });
+    assert_eq!(rt;
+        check_end(&header, AFTER, &reads, &writes, 5, true),
+        trailing
+    );
     Ok(())
 }
