@@ -5,4 +5,5 @@ mod Examples
 mod Fronts
 mod Judged
 mod Listed
+mod Making
 mod Running

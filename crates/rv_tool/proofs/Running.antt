@@ -17,7 +17,7 @@ use Rattle.rv_plan.proofs.Lemmas.{left, reaches_program}
 
 -- ---- the end within a budget
 
-none_within : (i : Image) (input : List ℕ) (n : ℕ) → GoesOn i input n → ends_within i input n ≡ None
+pub none_within : (i : Image) (input : List ℕ) (n : ℕ) → GoesOn i input n → ends_within i input n ≡ None
 unfolding ends_within
 none_within i input zero on = refl
 none_within i input (suc n) on = ap (λ r. earlier r (suc n) (end_at i input n)) (none_within i input n (λ k lt. on k (omega (arith, lt)))) ∙ ap (earlier None (suc n)) (on n (omega arith))
@@ -36,7 +36,7 @@ later i input n (suc more) r h =
     let next : suc (more + n) ≡ suc more + n = omega arith in
     subst (λ k. ends_within i input k ≡ Some r) next (ap (λ x. earlier x (suc (more + n)) (end_at i input (more + n))) (later i input n more r h))
 
-found_within : (i : Image) (input : List ℕ) (n budget : ℕ) (e : End) → EndsIn i input n e → n ≤ budget → ends_within i input budget ≡ Some (n, e)
+pub found_within : (i : Image) (input : List ℕ) (n budget : ℕ) (e : End) → EndsIn i input n e → n ≤ budget → ends_within i input budget ≡ Some (n, e)
 found_within i input n budget e h le = let whole : budget - n + n ≡ budget = omega (arith, le) in subst (λ b. ends_within i input b ≡ Some (n, e)) whole (later i input n (budget - n) (n, e) (at_end i input n e h))
 
 -- ---- run

@@ -6,7 +6,7 @@ ghost use Rattle.std.specs.Int.{IsInRange, div_ceil};
 ghost use Rattle.rv_base.specs.declared.record.Verdict.TheVariants.{Accept};
 ghost use Rattle.rv_spec.specs.Elf.{first_fault, image};
 ghost use Rattle.rv_spec.specs.Digest.{sha_lanes};
-ghost use Rattle.rv_spec.specs.Record.{header, record_file, table_bytes as spelled_table};
+ghost use Rattle.rv_spec.specs.Record.{header, header_bytes, record_file, table_bytes as spelled_table};
 ghost use Rattle.rv_spec.specs.Trace.{table};
 ghost use Rattle.rv_spec.specs.Conclusion.{HasRecord};
 ghost use Rattle.rv_rules.specs.Verdict.{verdict};
@@ -16,68 +16,62 @@ ghost use Rattle.rv_point.specs.PointsState.{IsSurvey};
 ghost use Rattle.rv_plan.specs.Endings.{IsWritten};
 ghost use Rattle.rv_plan.specs.FileCalls.{PerformsBehind};
 ghost use Rattle.rv_tool.specs.Commands.{make_words};
-ghost use Rattle.rv_tool.specs.Making.{HasPieces};
+ghost use Rattle.rv_tool.specs.Making.{recorded};
 ghost use Rattle.rv_tool.specs.Outcome.{make_plan};
 
 use crate::commands::Make;
 use crate::lines::made_line;
+use rv_base::layout::HEADER_BYTES;
 use rv_base::limits::{BUDGET_LIMIT, SHARD_SIZE_LIMIT};
 use rv_base::{Header, NoMemory};
 use rv_book::{Book, Task};
-use rv_elf::image_is_program;
+use rv_elf::laws::image_is_program;
 use rv_file::{table_bytes, write_header};
 use rv_host::Shelf;
 use rv_isa::laws::ranges;
 use rv_judge::laws::verdicts_conclude;
 use rv_plan::{DueFile, Fault, Loaded, Told, write_files};
 use rv_point::Points;
-use rv_point::laws::pieces;
 use sha2::{Digest, Sha512};
 use std::alloc::Global;
 
-/// Writes the record of a run, of which a book has the pieces, and tells of it. All memory is taken before the file is touched.
-pub fn write_record<S: Shelf, T: Task>(
+/// Writes the record of a run, which these parts spell, and tells of it. All memory is taken before the file is touched.
+pub fn write_parts<'x, S: Shelf>(
     alloc: Global,
     shelf: &mut S,
-    words: &Make<'_>,
+    words: &Make<'x>,
     loaded: &Loaded,
     points: &Points<'_>,
-    book: &Book<'_, T>,
+    parts: &'x [&'x [u8]],
 ) -> Result<Told, Fault>
-    requires version { IsInRange 1 2 words.now.version }
-    requires shard { IsInRange 1 SHARD_SIZE_LIMIT words.now.shard }
-    requires has { HasPieces (make_words words.now) loaded.now.elf loaded.now.input points.now book.now }
+    requires survey { IsSurvey (image words.now.version loaded.now.elf) loaded.now.input words.now.shard words.now.budget points.now }
+    requires parts { flat_map (λ part. part.now) parts.now ≡ recorded (make_words words.now) loaded.now.elf loaded.now.input points.now }
     ensures performs { PerformsBehind (make_plan (make_words words.now) loaded.now.elf loaded.now.input) (S.view shelf.old) (S.view shelf.new) result }
-    ensures written { IfOk result (λ _. IsWritten ((words.now.«record».now, record_file sha_lanes words.now.version loaded.now.elf loaded.now.input words.now.shard points.now.steps points.now.end) ∷ []) (S.view shelf.old) (S.view shelf.new)) }
+    ensures written { IfOk result (λ _. IsWritten ((words.now.«record».now, recorded (make_words words.now) loaded.now.elf loaded.now.input points.now) ∷ []) (S.view shelf.old) (S.view shelf.new)) }
 {
-    pieces();
-    let front = write_header(&header_of(words.version, words.shard, loaded, points));
-    let Some(table) = table_of(alloc, points) else {
+    let Some(bytes) = length(parts) else {
         return Err(Fault::Memory);
     };
-    let shards = points.shards();
-    let Ok(parts) = parts_of(
-        alloc,
-        &front,
-        points.output(),
-        book,
-        shards,
-        table.as_slice(),
-    ) else {
-        return Err(Fault::Memory);
-    };
-    let Some(bytes) = length(parts.as_slice()) else {
-        return Err(Fault::Memory);
-    };
-    let Ok(text) = made_line(alloc, points.steps(), shards, points.end(), bytes) else {
+    let Ok(text) = made_line(alloc, points.steps(), points.shards(), points.end(), bytes) else {
         return Err(Fault::Memory);
     };
     let file = DueFile {
         name: words.record,
-        parts: parts.as_slice(),
+        parts,
     };
     write_files(shelf, &[file])?;
     Ok(Told { status: 0, text })
+}
+
+/// The 173 bytes of the header of the record of a run.
+pub fn front_of(version: u8, size: u32, loaded: &Loaded, points: &Points<'_>) -> [u8; HEADER_BYTES]
+    requires version { IsInRange 1 2 version }
+    requires image { points.now.image ≡ image version loaded.now.elf }
+    requires input { points.now.input ≡ loaded.now.input }
+    requires size { points.now.size ≡ size }
+    ensures { result ≡ header_bytes (header version loaded.now.elf loaded.now.input size points.now.steps points.now.end) }
+{
+    write_header(&header_of(version, size, loaded, points))
 }
 
 /// The header of the record of a run.
@@ -101,7 +95,7 @@ fn header_of(version: u8, size: u32, loaded: &Loaded, points: &Points<'_>) -> He
 }
 
 /// The bytes of the table of a run. A table of 2^32 entries has no count that could be written.
-fn table_of(alloc: Global, points: &Points<'_>) -> Option<Vec<u8>>
+pub fn table_of(alloc: Global, points: &Points<'_>) -> Option<Vec<u8>>
     ensures { IfSome result (λ bytes. bytes.items ≡ spelled_table (table points.now.image points.now.input points.now.steps)) }
 {
     let entries = points.table();
@@ -112,7 +106,7 @@ fn table_of(alloc: Global, points: &Points<'_>) -> Option<Vec<u8>>
 }
 
 /// The parts of a record, in order, each to be added by one call: header, output, shards and table.
-fn parts_of<'b, T: Task>(
+pub fn parts_of<'b, T: Task>(
     alloc: Global,
     front: &'b [u8],
     output: &'b [u8],

@@ -2,7 +2,7 @@ use Rattle.std.proofs.Common.{◌≡◌, ◌∙◌, subst, sym, List, ℕ, Some,
 use Rattle.rv_plan.proofs.Lemmas.{handed_on}
 use Rattle.rv_tool.specs.Commands.{settle_words}
 use Rattle.rv_tool.specs.Outcome.{settle_plan}
-use Rattle.rv_tool.proofs.Checking.{settle_faulty, settle_no_memory, settle_run, settle_settled, settle_unread, settled_loaded}
+use Rattle.rv_tool.proofs.Checking.{settle_faulty, settle_run, settle_settled, settle_unread, settled_loaded}
 use Rattle.rv_tool.proofs.settle.settle.Goals as goal
 
 pub returns-in_err-loaded-clause-performs : goal.returns-in_err-loaded-clause-performs
@@ -22,21 +22,16 @@ returns-in_err-file-clause-performs g c =
     rw (handed_on c.from_residual-in_err-file.result c.in_err-file.field-0.0 c.from_residual-in_err-file.ensures.1)
     (settle_unread w _ _ _ c.in_ok-loaded.loaded c.in_err-file.field-0.0 c.in_ok-loaded.ensures c.in_ok-program.ensures.faultless c.in_err-file.ensures)
 
-pub returns-in_default-settle-clause-performs : goal.returns-in_default-settle-clause-performs
-returns-in_default-settle-clause-performs g c =
-    let w = settle_words c.args.words.now in
-    settle_no_memory w _ _ _ c.in_ok-loaded.loaded c.in_ok-file.file c.in_ok-loaded.ensures c.in_ok-program.ensures.faultless c.in_ok-file.ensures
-
 pub returns-clause-performs : goal.returns-clause-performs
 returns-clause-performs g c =
     let w = settle_words c.args.words.now in
-    settle_settled w _ _ _ c.in_ok-loaded.loaded c.in_ok-file.file c.in-Ok-settle.settled c.tell_settled.result c.in_ok-loaded.ensures c.in_ok-program.ensures.faultless c.in_ok-file.ensures
-    (settled_loaded c.in_ok-program.program c.in_ok-loaded.loaded.elf c.in_ok-loaded.loaded.input c.in_ok-file.file c.list.result.now c.in-Ok-settle.settled c.in_ok-program.ensures.files c.list.ensures c.in-Ok-settle.ensures)
+    settle_settled w _ _ _ c.in_ok-loaded.loaded c.in_ok-file.file c.in-Ok.settled c.tell_settled.result c.in_ok-loaded.ensures c.in_ok-program.ensures.faultless c.in_ok-file.ensures
+    (settled_loaded c.in_ok-program.program c.in_ok-loaded.loaded.elf c.in_ok-loaded.loaded.input c.in_ok-file.file c.list.result.now c.in-Ok.settled c.in_ok-program.ensures.files c.list.ensures c.in-Ok.ensures)
     c.tell_settled.ensures
 
 pub returns-clause-headline : goal.returns-clause-headline
 returns-clause-headline g c =
     let w = settle_words c.args.words.now in
-    settle_run w _ _ _ c.in_ok-loaded.loaded c.in_ok-file.file c.in-Ok-settle.settled c.tell_settled.result c.in_ok-loaded.ensures c.in_ok-file.ensures
-    (settled_loaded c.in_ok-program.program c.in_ok-loaded.loaded.elf c.in_ok-loaded.loaded.input c.in_ok-file.file c.list.result.now c.in-Ok-settle.settled c.in_ok-program.ensures.files c.list.ensures c.in-Ok-settle.ensures)
+    settle_run w _ _ _ c.in_ok-loaded.loaded c.in_ok-file.file c.in-Ok.settled c.tell_settled.result c.in_ok-loaded.ensures c.in_ok-file.ensures
+    (settled_loaded c.in_ok-program.program c.in_ok-loaded.loaded.elf c.in_ok-loaded.loaded.input c.in_ok-file.file c.list.result.now c.in-Ok.settled c.in_ok-program.ensures.files c.list.ensures c.in-Ok.ensures)
     c.tell_settled.ensures
