@@ -1,6 +1,7 @@
 //! Command lines over files in memory: statuses, lines, and what the files hold afterwards.
 
 mod asking;
+mod checking;
 mod failing;
 mod making;
 mod programs;
@@ -73,6 +74,12 @@ fn words_that_are_no_command(rt: HostRuntime) -> Result<(), Fail> {
         "make elf input record 1 3 0",
         "make elf input record 1 3 8388609",
         "make elf input record 1 3 18446744073709551617",
+        "make2 elf input record 1 3",
+        "check elf input record",
+        "check elf input record 0",
+        "check elf input record 65",
+        "settle elf input record 1",
+        "settle elf input",
         "run elf input output",
         "run elf input output 0",
         "run elf input output 1 1",

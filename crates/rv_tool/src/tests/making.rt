@@ -2,7 +2,8 @@
 
 ghost use Rattle.std.specs.Prelude.{◌<◌};
 
-use super::programs::{PROGRAM, RECORD, spelled, with_headers};
+use super::programs::{PROGRAM, RECORD, of_code, spelled, with_headers};
+use super::running::{GREETING, RESERVING};
 use super::{MADE, expect, shelf_with, words_of};
 use crate::{needs_team, tool};
 use rv_host::{MemShelf, MemSink, OpenGate};
@@ -59,33 +60,40 @@ fn faults_of_several_segments(rt: HostRuntime) -> Result<(), Fail> {
 }
 
 #[test]
-fn a_run_that_needs_more_than_there_is(rt: HostRuntime) -> Result<(), Fail> {
+fn runs_and_their_records(rt: HostRuntime) -> Result<(), Fail> {
+    let made = [
+        (PROGRAM.as_slice(), "make elf input record 1 1 3", "made steps=3 shards=3 end=0 code=42 bytes=1295\n"),
+        (GREETING.as_slice(), "make elf input record 1 16 100", "made steps=8 shards=1 end=0 code=3 bytes=1231\n"),
+        // jalr x1, 2(x0): its target is misaligned
+        (&[0xE7, 0, 0x20, 0], "make elf input record 1 1 1", "made steps=1 shards=1 end=3 code=0 bytes=511\n"),
+        (RESERVING.as_slice(), "make elf input record 1 4 4", "made steps=2 shards=1 end=1 code=0 bytes=594\n"),
+        (RESERVING.as_slice(), "make2 elf input record 1 4 4", "made steps=4 shards=1 end=1 code=0 bytes=939\n"),
+    ];
+    for (code, line, printed) in made {
+        let elf = if code.len() == 96 {
+            let mut elf = Vec::new(rt.alloc());
+            elf.extend_from_slice(code)?;
+            elf
+        } else {
+            of_code(&rt, code)?
+        };
+        let mut shelf = shelf_with(&rt, &elf)?;
+        expect(&rt, line, &mut shelf, 0, printed)?;
+    }
+    Ok(())
+}
+
+#[test]
+fn runs_without_a_record(rt: HostRuntime) -> Result<(), Fail> {
     let mut shelf = shelf_with(&rt, &PROGRAM)?;
-    expect(
-        &rt,
-        "make elf input record 1 3 2",
-        &mut shelf,
-        4,
-        "fault budget 2\n",
-    )?;
-    expect(
-        &rt,
-        "make elf input record 1 2 3",
-        &mut shelf,
-        9,
-        "fault notbuilt\n",
-    )?;
-    // the first word made one of a store
-    let mut other = PROGRAM;
-    other[84] = 0x23;
-    shelf.put("elf", &other)?;
-    expect(
-        &rt,
-        "make elf input record 1 3 3",
-        &mut shelf,
-        9,
-        "fault notbuilt\n",
-    )?;
+    expect(&rt, "make elf input record 1 3 2", &mut shelf, 4, "fault budget 2\n")?;
+    // a loop of 65,537 steps in all
+    let counting = [
+        0xB7, 0x82, 0, 0, 0x93, 0x82, 0xF2, 0xFF, 0x93, 0x82, 0xF2, 0xFF, 0xE3, 0x9E, 0x02, 0xFE,
+    ];
+    shelf.put("elf", &of_code(&rt, &counting)?)?;
+    expect(&rt, "make elf input record 1 1 100000", &mut shelf, 8, "fault limit shards\n")?;
+    expect(&rt, "make elf input record 1 1 65536", &mut shelf, 4, "fault budget 65536\n")?;
     assert!(rt; shelf.file("record").is_none());
     Ok(())
 }
@@ -134,8 +142,24 @@ fn faults_of_the_elf_file(rt: HostRuntime) -> Result<(), Fail> {
 }
 
 #[test]
-fn a_second_worker_asks_for_a_team(rt: HostRuntime) -> Result<(), Fail> {
-    let words = words_of(&rt, "make elf input record 2 3 3")?;
+fn workers_make_the_same_record(rt: HostRuntime) -> Result<(), Fail> {
+    let mut shelf = shelf_with(&rt, &PROGRAM)?;
+    expect(&rt, "make elf input alone 1 1 3", &mut shelf, 0, "made steps=3 shards=3 end=0 code=42 bytes=1295\n")?;
+    for line in ["make elf input team 2 1 3", "make elf input team 4 1 3", "make elf input team 64 1 3"] {
+        let words = words_of(&rt, line)?;
+        assert!(rt; needs_team(&words), "{line}");
+        let mut sink = MemSink::new(rt.alloc());
+        let status = tool(&rt, rt.alloc(), &words, &mut shelf, &mut sink, &OpenGate);
+        assert_eq!(rt; status, 0, "{line}");
+        assert!(rt; shelf.file("team").is_some(), "{line}");
+        assert!(rt; shelf.file("team") == shelf.file("alone"), "{line}");
+    }
+    Ok(())
+}
+
+#[test]
+fn a_second_worker_of_check_is_not_built(rt: HostRuntime) -> Result<(), Fail> {
+    let words = words_of(&rt, "check elf input record 2")?;
     assert!(rt; needs_team(&words));
     let mut shelf = shelf_with(&rt, &PROGRAM)?;
     // the refusal comes before a read that would fail
@@ -144,7 +168,6 @@ fn a_second_worker_asks_for_a_team(rt: HostRuntime) -> Result<(), Fail> {
     let status = tool(&rt, rt.alloc(), &words, &mut shelf, &mut sink, &OpenGate);
     assert_eq!(rt; status, 9);
     assert_eq!(rt; sink.bytes(), b"fault notbuilt\n".as_slice());
-    assert!(rt; shelf.file("record").is_none());
     Ok(())
 }
 

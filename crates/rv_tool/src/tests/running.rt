@@ -12,7 +12,7 @@ pub const GREETING: [u8; 35] = [
 ];
 
 /// lui x5, 0x20; lr.w x6, (x5); sc.w x7, x6, (x5)
-const RESERVING: [u8; 12] = [
+pub const RESERVING: [u8; 12] = [
     0xB7, 0x02, 0x02, 0x00, 0x2F, 0xA3, 0x02, 0x10, 0xAF, 0xA3, 0x62, 0x18,
 ];
 
@@ -87,7 +87,7 @@ fn a_program_in_c(rt: HostRuntime) -> Result<(), Fail> {
         "run elf input output 2000",
         &mut shelf,
         0,
-        "ran steps=1210 end=0 code=0 output=8\n",
+        "ran steps=1038 end=0 code=0 output=8\n",
     )?;
     assert_eq!(rt; shelf.file("output"), Some(b"2 12 53\n".as_slice()));
     Ok(())
