@@ -9,6 +9,7 @@
 #include <signal.h>
 #include <stddef.h>
 #include <stdio.h>
+#include <stdlib.h>
 #include <string.h>
 #include <sys/stat.h>
 #include <sys/time.h>
@@ -273,6 +274,24 @@ FILE *const stderr = &errors;
 __attribute__((destructor(101))) static void flush_at_end(void)
 {
     flush(stdout);
+}
+
+#else
+
+/* newlib leaves the program's functions at the end to the start code. */
+
+typedef void function(void);
+extern function *__fini_array_start[], *__fini_array_end[];
+
+static void end(void)
+{
+    for (function **next = __fini_array_end; next > __fini_array_start;)
+        (*--next)();
+}
+
+__attribute__((constructor(101))) static void start(void)
+{
+    atexit(end);
 }
 
 #endif
