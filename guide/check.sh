@@ -32,7 +32,8 @@ runs() { # ELF INPUT OUTPUT CODE
 
 runs_in_qemu() { # ELF INPUT OUTPUT CODE
     local code
-    qemu-riscv32 "$1" <"$2" >"$made/output" 2>/dev/null
+    install -m 755 "$1" "$made/program"
+    qemu-riscv32 "$made/program" <"$2" >"$made/output" 2>/dev/null
     code=$?
     [ "$code" = "$4" ] || differs "qemu-riscv32 $1 $2: $code"
     cmp "$made/output" "$3" || status=1
@@ -42,7 +43,8 @@ records() { # ELF INPUT OUTPUT CODE
     local line
     line=$("$tool" make "$1" "$2" "$made/record" 1 4096 8388608)
     if [ "$line" = "fault notbuilt" ]; then
-        missing="records can't be made yet"
+        [ "$told" = yes ] || echo "guide: records can't be made yet"
+        told=yes
         return
     fi
     [ "$(without_steps "$line")" = "made end=0 code=$4" ] || differs "make $1 $2: $line"
@@ -50,28 +52,22 @@ records() { # ELF INPUT OUTPUT CODE
     [ "$(without_steps "$line")" = "accepted end=0 code=$4" ] || differs "check $1 $2: $line"
 }
 
-# Each example with its inputs: NAME INPUT OUTPUT CODE.
-cases() {
-    cat <<'END'
+compares() { # FOLDER
+    local name input output code
+    while read -r name input output code; do
+        [ -f "$1/$name.elf" ] || continue
+        runs "$1/$name.elf" "$input" "$output" "$code"
+        records "$1/$name.elf" "$input" "$output" "$code"
+        if [ "$qemu" = yes ]; then
+            runs_in_qemu "$1/$name.elf" "$input" "$output" "$code"
+        fi
+    done <<'END'
 count examples/count.in examples/count.out 0
 sha256 examples/sha256.in examples/sha256.out 0
 ledger examples/ledger.in examples/ledger.out 0
 ledger examples/count.in /dev/null 1
 runtime tests/runtime.in tests/runtime.out 3
 END
-}
-
-compares() { # FOLDER
-    local name input output code missing=
-    while read -r name input output code; do
-        [ -f "$1/$name.elf" ] || continue
-        runs "$1/$name.elf" "$input" "$output" "$code"
-        records "$1/$name.elf" "$input" "$output" "$code"
-        if type qemu-riscv32 >/dev/null 2>&1; then
-            runs_in_qemu "$1/$name.elf" "$input" "$output" "$code"
-        fi
-    done < <(cases)
-    [ -z "$missing" ] || echo "guide: $missing"
 }
 
 builds() { # COMPILER, and the commands that it needs
@@ -98,12 +94,15 @@ if [ ! -x "$tool" ]; then
     echo "guide: no $tool"
     exit 1
 fi
-type qemu-riscv32 >/dev/null 2>&1 || echo "guide: no qemu-riscv32 to compare with"
+qemu=yes
+type qemu-riscv32 >/dev/null 2>&1 || qemu=no
+[ "$qemu" = yes ] || echo "guide: no qemu-riscv32 to compare with"
+told=no
 made=$(mktemp -d)
 compares "$shipped"
-builds gcc riscv64-unknown-elf-gcc
-builds picolibc riscv64-unknown-elf-gcc
-builds clang clang ld.lld
+builds gcc make riscv64-unknown-elf-gcc
+builds picolibc make riscv64-unknown-elf-gcc
+builds clang make clang ld.lld
 if type riscv64-unknown-elf-gcc >/dev/null 2>&1; then
     tests/faults.sh "$tool" || status=1
 fi

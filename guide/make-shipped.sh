@@ -13,4 +13,5 @@ done
 $gcc --specs=picolibc.specs "${flags[@]}" -nostartfiles -o "$folder/ledger.elf" runtime/start.S runtime/libc.c examples/ledger.c
 for name in count sha256 ledger; do
     riscv64-unknown-elf-objcopy --remove-section .comment --remove-section .riscv.attributes "$folder/$name.elf"
+    chmod 644 "$folder/$name.elf"
 done
