@@ -4,6 +4,8 @@
    time, no signals and no other processes, and a call for one fails as POSIX says. One call of the machine moves at most the
    bytes up to the end of the word (4 bytes) in which the buffer begins, so reading and writing stand in loops. */
 
+#include "memory.h"
+
 #include <errno.h>
 #include <fcntl.h>
 #include <signal.h>
@@ -266,9 +268,9 @@ static FILE input = FDEV_SETUP_STREAM(NULL, get, NULL, _FDEV_SETUP_READ);
 static FILE output = FDEV_SETUP_STREAM(put, NULL, flush, _FDEV_SETUP_WRITE);
 static FILE errors = FDEV_SETUP_STREAM(put_error, NULL, NULL, _FDEV_SETUP_WRITE);
 
-FILE *const stdin = &input;
-FILE *const stdout = &output;
-FILE *const stderr = &errors;
+__attribute__((used)) FILE *const stdin = &input;
+__attribute__((used)) FILE *const stdout = &output;
+__attribute__((used)) FILE *const stderr = &errors;
 
 /* Of the program's functions at the end, the last. */
 __attribute__((destructor(101))) static void flush_at_end(void)

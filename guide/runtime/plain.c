@@ -1,8 +1,9 @@
-/* A program without a C library: standard input and output, the end, and the four functions that compilers call on their own.
+/* A program without a C library: standard input and output, and the end.
 
    One call of the machine moves at most the bytes up to the end of the word (4 bytes) in which the buffer begins, so each stands
    in a loop. */
 
+#include "memory.h"
 #include "plain.h"
 
 enum { READ = 63, WRITE = 64, EXIT = 93 };
@@ -47,48 +48,4 @@ void exit(int code)
 {
     for (;;)
         call(EXIT, code, NULL, 0);
-}
-
-/* Compilers call these for structs and loops. The empty assembly keeps a compiler from taking a loop for the call itself. */
-#define KEEP_LOOP __asm__ volatile("")
-
-void *memcpy(void *to, const void *from, size_t length)
-{
-    char *at = to;
-    for (const char *byte = from; length > 0; length--) {
-        *at++ = *byte++;
-        KEEP_LOOP;
-    }
-    return to;
-}
-
-void *memmove(void *to, const void *from, size_t length)
-{
-    char *at = to;
-    const char *byte = from;
-    if (at <= byte)
-        return memcpy(to, from, length);
-    while (length-- > 0) {
-        at[length] = byte[length];
-        KEEP_LOOP;
-    }
-    return to;
-}
-
-void *memset(void *to, int value, size_t length)
-{
-    for (char *at = to; length > 0; length--) {
-        *at++ = (char)value;
-        KEEP_LOOP;
-    }
-    return to;
-}
-
-int memcmp(const void *one, const void *other, size_t length)
-{
-    const unsigned char *a = one, *b = other;
-    for (; length > 0; length--, a++, b++)
-        if (*a != *b)
-            return *a - *b;
-    return 0;
 }

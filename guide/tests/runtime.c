@@ -46,7 +46,7 @@ static void memory(void)
     for (int i = 0; i < 1000; i++)
         sum += zero[i];
     printf("memory %d %d %d %d %d\n", constructed, own, own_zero, sum, own_zero + seven);
-    char *much = malloc(1000000);
+    char *volatile much = malloc(10000);
     memset(much, 'x', 1000);
     printf("malloc %d %c\n", much != NULL, much[999]);
     free(much);
