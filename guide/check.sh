@@ -66,6 +66,7 @@ count examples/count.in examples/count.out 0
 sha256 examples/sha256.in examples/sha256.out 0
 ledger examples/ledger.in examples/ledger.out 0
 ledger examples/count.in /dev/null 1
+lines examples/ledger.in examples/lines.out 0
 runtime tests/runtime.in tests/runtime.out 3
 END
 }
@@ -80,7 +81,11 @@ builds() { # COMPILER, and the commands that it needs
         fi
     done
     if [ "$compiler" = picolibc ] && ! riscv64-unknown-elf-gcc --specs=picolibc.specs -E - </dev/null >/dev/null 2>&1; then
-        echo "guide: no picolibc, so the examples aren't built with it"
+        echo "guide: no picolibc, so the examples with a C library aren't built"
+        return
+    fi
+    if [ "$compiler" = rust ] && ! ls "$(rustc --print target-libdir --target riscv32im-unknown-none-elf)"/libcore-* >/dev/null 2>&1; then
+        echo "guide: no riscv32im-unknown-none-elf, so the example in Rust isn't built"
         return
     fi
     if ! make -s "$compiler"; then
@@ -103,6 +108,7 @@ compares "$shipped"
 builds gcc make riscv64-unknown-elf-gcc
 builds picolibc make riscv64-unknown-elf-gcc
 builds clang make clang ld.lld
+builds rust make rustc
 if type riscv64-unknown-elf-gcc >/dev/null 2>&1; then
     tests/faults.sh "$tool" || status=1
 fi
