@@ -90,12 +90,17 @@ of_files() {
     says 'fault read' run "$made/absent" "$empty" "$output" 100
     says 'fault read' run "$elf" - "$output" 100
     says 'fault read' run "$elf" "$made" "$output" 100
-    : | says 'fault read' run "$elf" /dev/stdin "$output" 100
-    says 'ran end=0 code=42 output=0' run "$elf" /dev/stdin "$output" 100 <"$empty"
     says 'fault write' run "$elf" "$empty" "$made/absent/output" 100
     truncate -s 16777217 "$made/long"
     says 'fault limit input' run "$elf" "$made/long" "$output" 100
     says 'fault words' run "$elf" "$empty" "$output" 8388609
+}
+
+of_streams() {
+    program bare 'ran end=0 code=42 output=0' "${machine[@]}"
+    case=streams
+    : | says 'fault read' run "$elf" /dev/stdin "$output" 100
+    says 'ran end=0 code=42 output=0' run "$elf" /dev/stdin "$output" 100 <"$empty"
     program raw 'ran end=0 code=0 output=4' "${machine[@]}"
     "$tool" run "$elf" "$empty" /dev/stdout 100 >"$output"
     if ! grep -q '^ran ' "$output"; then
@@ -119,6 +124,9 @@ of_libraries() {
 of_elf_files
 of_ends
 of_files
+if [ -e /dev/stdin ]; then
+    of_streams
+fi
 if "$gcc" --specs=picolibc.specs -E - <"$empty" >"$output" 2>&1; then
     of_libraries
 fi
