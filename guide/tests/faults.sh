@@ -26,6 +26,7 @@ says() { # LINE, and the program's words. The count of steps depends on the comp
     if [ "$line" != "$1" ]; then
         echo "guide: faults of $case: $line"
         status=1
+        return 1
     fi
 }
 
@@ -99,7 +100,7 @@ of_files() {
 of_streams() {
     program bare 'ran end=0 code=42 output=0' "${machine[@]}"
     case=streams
-    : | says 'fault read' run "$elf" /dev/stdin "$output" 100
+    : | says 'fault read' run "$elf" /dev/stdin "$output" 100 || status=1
     says 'ran end=0 code=42 output=0' run "$elf" /dev/stdin "$output" 100 <"$empty"
     program raw 'ran end=0 code=0 output=4' "${machine[@]}"
     "$tool" run "$elf" "$empty" /dev/stdout 100 >"$output"
