@@ -1,0 +1,11 @@
+//! Checking a record file by workers: each checks shards alone, from the places that their heads state, and the home thread chains them in order.
+#![tactic(auto)]
+
+mod chain;
+mod panel;
+mod starts;
+mod task;
+
+pub use panel::panel;
+
+pub use rv_base::{NoMemory, Verdict};
