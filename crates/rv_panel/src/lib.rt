@@ -2,10 +2,9 @@
 #![tactic(auto)]
 
 mod chain;
-mod panel;
+mod checking;
 mod starts;
 mod task;
 
-pub use panel::panel;
-
+pub use checking::panel;
 pub use rv_base::{NoMemory, Verdict};
