@@ -1,16 +1,15 @@
 -- What an accepted file is, from the laws of accepted files.
-use Rattle.std.proofs.Common.{◌≡◌, ◌∙◌, ◌⊎◌, ℕ, true, nat_le, List, [], ◌∷◌, length, take, drop, Option, Some, None, Result, Ok, Err, refl, sym, ap, subst}
+use Rattle.std.proofs.Common.{◌≡◌, ◌∙◌, ◌⊎◌, ℕ, true, nat_le, List, [], ◌∷◌, length, take, drop, None, Result, Ok, Err, refl, sym, ap, subst}
 use Rattle.std.specs.Int.{div_ceil}
 use Rattle.rv_base.specs.declared.record.End.{End}
 use Rattle.rv_base.specs.declared.record.Header.{Header}
 use Rattle.rv_base.specs.declared.record.Refusal.{Refusal}
 use Rattle.rv_base.specs.declared.record.TableEntry.{TableEntry}
-use Rattle.rv_base.specs.declared.record.Verdict.TheVariants.{Accept}
 use Rattle.rv_spec.specs.Digest.{Lanes}
 use Rattle.rv_spec.specs.Elf.{first_fault}
 use Rattle.rv_spec.specs.Words.{AreBytes, u32_at}
-use Rattle.rv_spec.specs.Record.{Parts, Shard, record_file}
-use Rattle.rv_spec.specs.Conclusion.{HasRecord, IsRecord, IsCollision}
+use Rattle.rv_spec.specs.Record.{Parts, Shard}
+use Rattle.rv_spec.specs.Conclusion.{IsRecord, IsCollision}
 use Rattle.rv_rules.specs.Laws.{AcceptedIsRecord, RecordIsAccepted}
 use Rattle.rv_rules.specs.Reading.{Reading, header_of, header_checks, first_place, end_checks, read_entries, read_shards, read_file}
 use Rattle.rv_rules.specs.Checks.{first_broken, unless_broken, ◌>>=◌}

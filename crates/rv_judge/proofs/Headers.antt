@@ -1,8 +1,8 @@
 -- The header in front of a file, and the checks of it.
-use Rattle.std.proofs.Common.{◌≡◌, ◌∙◌, ◌⊎◌, ℕ, ◌+◌, ◌-◌, ◌<◌, ◌≤◌, Bool, true, false, cond, not, ◌==◌, ◌&&◌, ◌||◌, nat_le, bytes_eq, List, [], ◌∷◌, ◌++◌, length, take, drop, get_or, Option, Some, None, Result, Ok, Err, refl, sym, ap, subst, inl, inr, arith}
-use Rattle.std.specs.Int.{IsInRange, is_in_range, div_ceil}
+use Rattle.std.proofs.Common.{◌≡◌, ◌∙◌, ◌⊎◌, ℕ, ◌+◌, ◌≤◌, Bool, true, false, cond, not, ◌==◌, ◌&&◌, ◌||◌, nat_le, bytes_eq, List, [], ◌∷◌, ◌++◌, length, take, drop, get_or, Option, Some, None, Ok, Err, refl, sym, ap, inl, inr, arith, subst}
+use Rattle.std.specs.Int.{is_in_range, div_ceil}
 use Rattle.std.proofs.lemmas.Bool.{leb-true, le-leb, eqb-true, and_parts, cases_lt}
-use Rattle.std.proofs.lemmas.List.{append-nil, take-take}
+use Rattle.std.proofs.lemmas.List.{append-nil, length-take-le, take-take}
 use Rattle.sha2.specs.Sha512.{sha512}
 use Rattle.rv_base.specs.declared.record.Header.{Header}
 use Rattle.rv_base.specs.declared.record.Refusal.{Refusal}
@@ -268,3 +268,26 @@ whole_comes lanes elf input file k output shards s p e out rest is begun =
     (λ i. told k (reads (step lanes (is i)) p (append-nil shards i)))
     ∙ ap (λ (z : List ℕ). told k (reads (step lanes (record { elf = elf; input = input; header = k; output = output })) p z)) rest
     ∙ file_goes lanes elf input file k output p e (begun ∙ ap (λ (z : Subject). first_phase true lanes z.elf z.input z.header) is) out
+
+-- ---- for callers
+
+-- A header that the checks of a front gave is of a known version, and its numbers break no rule.
+pub header_checked : (lanes : Lanes) (elf input file : List ℕ) (k : Header) → unless_broken 0 0 (header_checks true lanes elf input file) (header_of file) ≡ Ok k → IsChecked k
+header_checked lanes elf input file k e =
+    let read = unless_ok 0 0 (header_checks true lanes elf input file) (header_of file) k e in
+    let is : IsChecked (header_of file) = record {
+      version = elim (version_of file) [ inl one ↦ (omega (arith, one), omega (arith, one)) | inr two ↦ (omega (arith, two), omega (arith, two)) ];
+      numbers = (has_header lanes elf input file read.0).numbers;
+    } in
+    subst (λ (z : Header). IsChecked z) read.1 is
+
+at_least : (b : Bool) (n : ℕ) → 173 ≤ cond b (173 + n) 173
+at_least true n = omega arith
+at_least false n = omega arith
+
+-- The first bytes of a file, as many as its header tells, are its front.
+pub whole_front : (file first : List ℕ) (n : ℕ) → first ≡ take 173 file → n ≡ front_length first → n ≤ length file → IsWholeFront (take n file)
+whole_front file first n is size within =
+    let least : 173 ≤ n = subst (λ (k : ℕ). 173 ≤ k) (sym size) (at_least (is_record first && nat_le (header_of first).length 67108864) (header_of first).length) in
+    let long : length (take n file) ≡ n = length-take-le n file within in
+    (omega (arith, long, least), long ∙ size ∙ ap front_length (is ∙ sym (take-take 173 n file least)))

@@ -1,6 +1,6 @@
 -- What a cell holds before the first step is the same in each version, and reads off the image.
 use Rattle.std.proofs.Common.{◌≡◌, ℕ, zero, suc, ◌+◌, ◌-◌, ◌^◌, ◌<◌, ◌≤◌, Bool, true, false, cond, ◌==◌, get_or, replicate, refl, sym, ap, ◌∙◌, arith}
-use Rattle.std.proofs.lemmas.Bool.{eqb-true, ne_eqb, eq-eqb, le-ltb, lt-ltb}
+use Rattle.std.proofs.lemmas.Bool.{eqb-true, ne_eqb, le-ltb, lt-ltb}
 use Rattle.rv_spec.specs.Words.{word}
 use Rattle.rv_spec.specs.Elf.{Image}
 use Rattle.rv_spec.specs.Step.{start, register}

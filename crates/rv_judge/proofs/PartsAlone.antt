@@ -1,7 +1,6 @@
 -- A shard alone and the table alone, where the reading of them stops.
-use Rattle.std.proofs.Common.{◌≡◌, ◌∙◌, ℕ, zero, ◌+◌, ◌-◌, ◌*◌, ◌≤◌, Bool, true, nat_le, bytes_eq, ◌&&◌, ◌==◌, List, [], ◌∷◌, ◌++◌, length, map, drop, Option, Some, None, Result, Ok, Err, refl, sym, ap, subst, arith}
+use Rattle.std.proofs.Common.{◌≡◌, ◌∙◌, ℕ, zero, ◌+◌, ◌*◌, ◌≤◌, true, nat_le, bytes_eq, ◌&&◌, ◌==◌, List, [], ◌∷◌, ◌++◌, length, map, drop, Option, Some, None, Result, Ok, Err, refl, sym, ap}
 use Rattle.std.proofs.lemmas.List.{append-nil}
-use Rattle.rv_base.specs.declared.record.Header.{Header}
 use Rattle.rv_base.specs.declared.record.Place.{Place}
 use Rattle.rv_base.specs.declared.record.Refusal.{Refusal}
 use Rattle.rv_base.specs.declared.record.TableEntry.{TableEntry}
@@ -10,7 +9,7 @@ use Rattle.rv_spec.specs.Trace.{Row}
 use Rattle.rv_spec.specs.Tuples.{events, tuple_last, tuple_read, tuple_written}
 use Rattle.rv_spec.specs.Record.{Shard, rows_length, shard_rows}
 use Rattle.rv_spec.specs.Digest.{Lanes, digest}
-use Rattle.rv_rules.specs.Checks.{Check, first_broken, refused_by, unless_broken, ◌>>=◌}
+use Rattle.rv_rules.specs.Checks.{Check, refused_by, unless_broken, ◌>>=◌}
 use Rattle.rv_rules.specs.Reading.{Reading, head_of, digest_of, read_entries, read_rows, read_shard, same_place, when_complete}
 use Rattle.rv_file.proofs.Lemmas.{bind_ok, unless_ok}
 use Rattle.rv_reading.specs.Stream.{State, onwards, reads}
@@ -22,7 +21,6 @@ use Rattle.rv_reading.proofs.Lemmas.{reads-step, shard_alone_is_read, table_alon
 use Rattle.rv_judge.specs.declared.phases.Machine.{Machine}
 use Rattle.rv_judge.specs.declared.phases.Phase.{Phase}
 use Rattle.rv_judge.specs.declared.phases.Phase.TheVariants.{Shards, Rows, Entries}
-use Rattle.rv_judge.specs.declared.sums.Sums.{Sums}
 use Rattle.rv_judge.specs.Subject.{Subject, step_to}
 use Rattle.rv_judge.specs.Phases.{entries_in, phase_at, phase_of, stopped, sums_of}
 use Rattle.rv_judge.specs.Alone.{can_stand, read_alone, read_table, stated}
@@ -35,7 +33,7 @@ state_at None p left = Ok (p, left)
 state_at (Some r) p left = Err r
 
 module _ (lanes : Lanes) (s : Subject) (extent : machine.Extent) (old new : machine.Phase) (bytes left : List ℕ) (o : Option Refusal) (stops : step_to lanes s extent new left ≡ stopped o)
-  (goes : (rest : List ℕ) → reads (step_to lanes s extent) new (left ++ rest) ≡ reads (step_to lanes s extent) old (bytes ++ rest)) where
+    (goes : (rest : List ℕ) → reads (step_to lanes s extent) new (left ++ rest) ≡ reads (step_to lanes s extent) old (bytes ++ rest)) where
   stops_at : reads (step_to lanes s extent) old bytes ≡ state_at o new left
   stops_at =
       ap (λ (z : List ℕ). reads (step_to lanes s extent) old z) (sym (append-nil bytes))
@@ -85,7 +83,7 @@ module _ (lanes : Lanes) (s : Subject) (i : ℕ) (bytes : List ℕ) where
   seen_of x = (ShardsOf 0 (i + 1) x.place (event_sums true lanes (events (i * s.header.size) x.part.rows)), x.left)
 
   module _ (m : Machine) (p : Place) (old : machine.Phase) (left : List ℕ) (o : Option Refusal) (stops : step_to lanes s ShardsAlone (phase_of m) left ≡ stopped o)
-    (goes : (rest : List ℕ) → reads (step_to lanes s ShardsAlone) (phase_of m) (left ++ rest) ≡ reads (step_to lanes s ShardsAlone) old (bytes ++ rest)) (begun : old ≡ ShardsOf 1 i p no_sums) where
+      (goes : (rest : List ℕ) → reads (step_to lanes s ShardsAlone) (phase_of m) (left ++ rest) ≡ reads (step_to lanes s ShardsAlone) old (bytes ++ rest)) (begun : old ≡ ShardsOf 1 i p no_sums) where
     shard_stops : (read_shard true lanes s.elf s.input s.header s.output i p bytes >>= λ x. Ok (seen_of x)) ≡ state_at o (phase_of m) left
     shard_stops =
         sym (shard_alone_is_read true lanes s.elf s.input s.header s.output i p bytes)
@@ -157,7 +155,7 @@ module _ (lanes : Lanes) (s : Subject) (bytes : List ℕ) where
   joined (Err e) f k = refl
 
   module _ (m : Machine) (i : ℕ) (p : Place) (old : machine.Phase) (left : List ℕ) (o : Option Refusal) (stops : step_to lanes s TableAlone (phase_of m) left ≡ stopped o)
-    (goes : (rest : List ℕ) → reads (step_to lanes s TableAlone) (phase_of m) (left ++ rest) ≡ reads (step_to lanes s TableAlone) old (bytes ++ rest)) (begun : old ≡ ShardsOf 0 i p no_sums) where
+      (goes : (rest : List ℕ) → reads (step_to lanes s TableAlone) (phase_of m) (left ++ rest) ≡ reads (step_to lanes s TableAlone) old (bytes ++ rest)) (begun : old ≡ ShardsOf 0 i p no_sums) where
     table_stops : (read_table s.header bytes >>= λ x. Ok (seen_table p x)) ≡ state_at o (phase_of m) left
     table_stops =
         sym (joined (unless_broken s.header.shards 0 ((1, nat_le 4 (length bytes)) ∷ []) (drop 4 bytes)) (read_entries (u32_at bytes 0) s.header 0 None) (seen_table p))

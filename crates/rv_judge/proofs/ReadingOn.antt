@@ -1,7 +1,6 @@
 -- Reading on, step by step.
-use Rattle.std.proofs.Common.{◌≡◌, ◌∙◌, ℕ, ◌+◌, ◌-◌, ◌<◌, ◌≤◌, Bool, true, false, cond, List, ◌++◌, length, take, drop, Option, Some, None, Ok, Err, refl, sym, ap, subst, arith}
+use Rattle.std.proofs.Common.{◌≡◌, ◌∙◌, ℕ, ◌+◌, ◌-◌, ◌<◌, ◌≤◌, true, false, cond, List, ◌++◌, length, take, drop, Some, None, Ok, sym, ap, subst, arith}
 use Rattle.std.proofs.lemmas.List.{length-drop, take_all, drop-drop}
-use Rattle.rv_base.specs.declared.record.Refusal.{Refusal}
 use Rattle.rv_spec.specs.Digest.{Lanes}
 use Rattle.rv_reading.specs.Stream.{IsStream, Found, reads}
 use Rattle.rv_reading.specs.Machine as machine
@@ -9,7 +8,7 @@ use Rattle.rv_reading.proofs.Lemmas.{extents_are_streams, reads-goes}
 use Rattle.rv_judge.specs.declared.phases.Machine.{Machine}
 use Rattle.rv_judge.specs.declared.phases.Phase.{Phase}
 use Rattle.rv_judge.specs.Subject.{Subject, step, step_to}
-use Rattle.rv_judge.specs.Phases.{Went, Fits, phase_at, phase_of}
+use Rattle.rv_judge.specs.Phases.{Went, phase_at, phase_of}
 
 pub went_at : (lanes : Lanes) (s : Subject) (m new : Machine) (q : Phase) (bytes : List ℕ) (n : ℕ) → m.phase ≡ q → Went lanes s (phase_at q m.place m.shard m.all) new bytes n → Went lanes s (phase_of m) new bytes n
 went_at lanes s m new q bytes n is w = subst (λ (z : Phase). Went lanes s (phase_at z m.place m.shard m.all) new bytes n) (sym is) w

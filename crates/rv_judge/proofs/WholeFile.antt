@@ -1,5 +1,5 @@
 -- Reading a whole file on, and what is known where it stops.
-use Rattle.std.proofs.Common.{◌≡◌, ◌∙◌, ℕ, zero, suc, ◌+◌, ◌<◌, ◌≤◌, Bool, true, false, cond, ◌==◌, List, [], ◌∷◌, ◌++◌, length, take, drop, get_or, Option, Some, None, Result, Ok, Err, refl, sym, ap, subst, append_assoc, arith}
+use Rattle.std.proofs.Common.{◌≡◌, ◌∙◌, ℕ, zero, suc, ◌+◌, ◌<◌, Bool, true, false, cond, ◌==◌, List, [], ◌∷◌, ◌++◌, length, take, drop, get_or, Option, Some, None, Result, Ok, Err, refl, sym, ap, append_assoc}
 use Rattle.std.proofs.lemmas.Bool.{eqb-true, eqb-false}
 use Rattle.std.proofs.lemmas.List.{append-nil, nil_from_length, take-append-drop, take_more}
 use Rattle.rv_base.specs.declared.record.Header.{Header}
@@ -8,7 +8,7 @@ use Rattle.rv_base.specs.declared.record.Refusal.{Refusal}
 use Rattle.rv_base.specs.declared.record.Verdict.TheVariants.{Refuse}
 use Rattle.rv_spec.specs.Digest.{Lanes}
 use Rattle.rv_rules.specs.Checks.{◌>>=◌}
-use Rattle.rv_reading.specs.Stream.{IsStream, Found, State, onwards, reads, reads_in, patient, with_patience, settle}
+use Rattle.rv_reading.specs.Stream.{IsStream, Found, onwards, reads, reads_in, patient, with_patience, settle}
 use Rattle.rv_reading.specs.Machine as machine
 use Rattle.rv_reading.specs.Machine.{told, step as machine_step}
 use Rattle.rv_reading.specs.Machine.Phase.{Shards, Rows, Entries}
@@ -17,7 +17,7 @@ use Rattle.rv_reading.proofs.Lemmas.{machine_is_stream, whole_file_is_read, read
 use Rattle.rv_judge.specs.declared.held.Reading.{Reading}
 use Rattle.rv_judge.specs.Subject.{Subject, step, step_to}
 use Rattle.rv_judge.specs.Phases.{phase_of, stopped}
-use Rattle.rv_judge.specs.Held.{Held, IsReading, ReadOn, RefusedOn, ReadsOn, comes, held_of}
+use Rattle.rv_judge.specs.Held.{IsReading, ReadOn, RefusedOn, ReadsOn, comes, held_of}
 
 -- ---- patience
 
@@ -59,7 +59,7 @@ module _ (lanes : Lanes) (s : Subject) where
       (states_wait true lanes s.elf s.input s.header s.output p xs (p, xs) settled).1
 
   module _ (old new : machine.Phase) (bytes left : List ℕ) (o : Option Refusal) (stops : step_to lanes s WholeFile new left ≡ stopped o)
-    (goes : (rest : List ℕ) → reads (step_to lanes s WholeFile) new (left ++ rest) ≡ reads (step_to lanes s WholeFile) old (bytes ++ rest)) where
+      (goes : (rest : List ℕ) → reads (step_to lanes s WholeFile) new (left ++ rest) ≡ reads (step_to lanes s WholeFile) old (bytes ++ rest)) where
     stops_so : step lanes s new left ≡ stopped o
     stops_so = sym (at_whole new left) ∙ stops
 

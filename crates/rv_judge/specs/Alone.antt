@@ -1,5 +1,5 @@
 -- Shards, table and end of a file, each judged alone.
-use Rattle.std.specs.Prelude.{◌≡◌, ◌≤◌, ℕ, ◌*◌, ◌%◌, true, Bool, not, ◌&&◌, ◌==◌, List, [], ◌∷◌, length, map, drop, Option, None, Result, Ok, Err, nat_le}
+use Rattle.std.specs.Prelude.{◌≡◌, ◌≤◌, ℕ, ◌*◌, ◌%◌, true, Bool, not, ◌&&◌, ◌==◌, List, [], ◌∷◌, length, map, drop, None, Result, Ok, Err, nat_le}
 use Rattle.rv_base.specs.declared.rules.TheConstants.{SHORT, SHARD_HEAD}
 use Rattle.rv_base.specs.declared.layout.TheConstants.{COUNT_BYTES, HEAD_BYTES}
 use Rattle.rv_base.specs.declared.record.Header.{Header}
@@ -8,7 +8,6 @@ use Rattle.rv_base.specs.declared.record.Refusal.{Refusal}
 use Rattle.rv_base.specs.declared.record.ShardHead.{ShardHead}
 use Rattle.rv_base.specs.declared.record.TableEntry.{TableEntry}
 use Rattle.rv_base.specs.declared.record.Verdict.{Verdict}
-use Rattle.rv_digest.specs.declared.set_digest.SetDigest.{SetDigest}
 use Rattle.rv_spec.specs.Words.{u32_at}
 use Rattle.rv_spec.specs.Tuples.{events, tuple_last, tuple_read, tuple_written}
 use Rattle.rv_spec.specs.Record.{Shard}

@@ -1,5 +1,5 @@
 -- What a judge holds between pieces, and what comes of it.
-use Rattle.std.specs.Prelude.{◌≡◌, ◌<◌, ◌≤◌, ℕ, ◌++◌, List, length, take, None, Result, Ok, Err}
+use Rattle.std.specs.Prelude.{◌≡◌, ◌≤◌, ℕ, ◌++◌, List, length, take, None, Result, Ok, Err}
 use Rattle.rv_base.specs.declared.rules.TheConstants.{SHORT}
 use Rattle.rv_base.specs.declared.layout.TheConstants.{HEADER_BYTES}
 use Rattle.rv_base.specs.declared.record.Refusal.{Refusal}

@@ -13,6 +13,8 @@ mod shards;
 mod subject;
 mod sums;
 mod table;
+#[cfg(test)]
+mod tests;
 mod whole;
 
 pub use alone::{ShardSeen, TableSeen, check_end, check_shard, check_table};

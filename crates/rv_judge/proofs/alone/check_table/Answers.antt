@@ -1,4 +1,4 @@
-use Rattle.std.proofs.Common.{◌≡◌, ◌∙◌, ◌-◌, ◌≤◌, Ok, Err, length, ap, sym, subst, arith}
+use Rattle.std.proofs.Common.{◌∙◌, ◌-◌, Ok, Err, length, ap, subst, arith}
 use Rattle.rv_reading.specs.Machine as machine
 use Rattle.rv_judge.specs.Alone.{SeesTable}
 use Rattle.rv_judge.specs.Phases.{phase_of}

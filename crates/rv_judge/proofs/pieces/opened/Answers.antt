@@ -1,4 +1,4 @@
-use Rattle.std.proofs.Common.{◌≡◌, ◌∙◌, ◌++◌, ◌-◌, [], List, ℕ, true, take, drop, length, Ok, None, ap, sym, subst}
+use Rattle.std.proofs.Common.{◌-◌, true, take, drop, length, sym, subst}
 use Rattle.rv_file.proofs.Lemmas.{unless_ok}
 use Rattle.rv_rules.specs.Sums.{tiny_lanes}
 use Rattle.rv_rules.specs.Reading.{header_of, header_checks}

@@ -1,4 +1,4 @@
-use Rattle.std.proofs.Common.{◌≡◌, ◌∙◌, List, ℕ, ap, bytes_eq}
+use Rattle.std.proofs.Common.{◌∙◌, List, ℕ, ap, bytes_eq}
 use Rattle.rv_rules.specs.Reading.{digest_of}
 use Rattle.rv_judge.proofs.Fronts.{digest_taken}
 use Rattle.rv_judge.proofs.sums.states.Goals as goal

@@ -1,6 +1,5 @@
-use Rattle.std.proofs.Common.{◌<◌, length-set, ◌≡◌, length, ap, arith, get_or}
+use Rattle.std.proofs.Common.{◌<◌, length-set, ◌≡◌, length, arith, get_or}
 use Rattle.rv_base.specs.declared.record.Access.{Access}
-use Rattle.rv_base.specs.declared.record.Tuple.{Tuple}
 use Rattle.rv_spec.specs.Tuples.{event, tuple_written}
 use Rattle.rv_judge.proofs.TuplesTaken.{one_more}
 use Rattle.rv_judge.proofs.sums.tuples_written.Goals as goal

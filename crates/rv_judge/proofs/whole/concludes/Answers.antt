@@ -1,4 +1,4 @@
-use Rattle.std.proofs.Common.{◌≡◌, arith}
+use Rattle.std.proofs.Common.{arith}
 use Rattle.rv_rules.proofs.Lemmas.{bytes-are}
 use Rattle.rv_judge.proofs.whole.concludes.Goals as goal
 

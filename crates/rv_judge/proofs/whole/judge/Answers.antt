@@ -1,4 +1,4 @@
-use Rattle.std.proofs.Common.{◌≡◌, ◌∙◌}
+use Rattle.std.proofs.Common.{◌∙◌}
 use Rattle.rv_judge.proofs.whole.judge.Goals as goal
 
 pub returns-clause-accepts : goal.returns-clause-accepts

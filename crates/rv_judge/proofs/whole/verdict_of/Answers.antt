@@ -1,4 +1,4 @@
-use Rattle.std.proofs.Common.{◌≡◌, ◌∙◌, ◌++◌, ◌-◌, [], List, ℕ, true, take, drop, length, ap, sym, subst}
+use Rattle.std.proofs.Common.{◌≡◌, ◌∙◌, ◌-◌, List, ℕ, true, take, drop, length, ap, sym, subst}
 use Rattle.rv_base.specs.declared.record.Header.{Header}
 use Rattle.rv_file.proofs.Lemmas.{unless_ok}
 use Rattle.rv_rules.specs.Reading.{header_of, header_checks}

@@ -1,4 +1,4 @@
-use Rattle.std.proofs.Common.{◌≡◌, ◌∙◌, [], ◌++◌, List, ℕ, ap, sym}
+use Rattle.std.proofs.Common.{◌∙◌, [], ◌++◌, List, ℕ, ap, sym}
 use Rattle.rv_base.specs.declared.record.Header.{Header}
 use Rattle.rv_reading.specs.Stream.{reads}
 use Rattle.rv_reading.specs.Machine.{told}

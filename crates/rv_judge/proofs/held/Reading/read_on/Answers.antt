@@ -1,4 +1,4 @@
-use Rattle.std.proofs.Common.{◌≡◌, ◌∙◌, [], ◌++◌, List, ℕ, Ok, None, refl, ap, sym}
+use Rattle.std.proofs.Common.{◌∙◌, ◌++◌, List, ℕ, refl, ap, sym}
 use Rattle.rv_reading.specs.Stream.{reads, patient}
 use Rattle.rv_judge.specs.Subject.{step}
 use Rattle.rv_judge.specs.Phases.{phase_of, stopped}

@@ -1,4 +1,4 @@
-use Rattle.std.proofs.Common.{◌≡◌, ◌∙◌, ◌<◌, [], ◌∷◌, ◌++◌, List, ℕ, length, refl, ap, sym, arith}
+use Rattle.std.proofs.Common.{◌∙◌, ◌<◌, length, ap, arith}
 use Rattle.arrayvec.specs.ArrayVec.{array_vec_len}
 use Rattle.rv_judge.specs.Phases.{phase_of}
 use Rattle.rv_judge.proofs.WholeFile.{few}

@@ -1,7 +1,6 @@
-use Rattle.std.proofs.Common.{◌≡◌, ◌∙◌, ◌+◌, ◌-◌, ◌*◌, ◌<◌, ◌≤◌, ℕ, true, false, Err, Ok, Some, ap, sym, subst, refl, drop, arith}
+use Rattle.std.proofs.Common.{◌∙◌, ◌-◌, Err, Ok, Some, ap, sym, refl, drop, arith}
 use Rattle.rv_base.specs.declared.record.Refusal.{Refusal}
-use Rattle.rv_base.specs.declared.record.ShardHead.{ShardHead}
-use Rattle.rv_reading.specs.Machine.{Sums, begin_shard}
+use Rattle.rv_reading.specs.Machine.{Sums}
 use Rattle.rv_reading.specs.Machine.Phase.{Rows}
 use Rattle.rv_judge.specs.Phases.{sums_of}
 use Rattle.rv_judge.proofs.StepFound.{head_short, head_other, head_went, rows_fit}

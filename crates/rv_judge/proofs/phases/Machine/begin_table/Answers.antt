@@ -1,4 +1,4 @@
-use Rattle.std.proofs.Common.{◌≡◌, ◌∙◌, ◌+◌, ◌<◌, ◌^◌, Err, Ok, Some, None, ap, sym, refl, drop, arith}
+use Rattle.std.proofs.Common.{◌≡◌, ◌∙◌, Err, Ok, Some, None, ap, sym, refl, drop, arith}
 use Rattle.rv_base.specs.declared.record.Refusal.{Refusal}
 use Rattle.rv_reading.specs.Machine.Phase.{Entries}
 use Rattle.rv_judge.specs.Phases.{sums_of}

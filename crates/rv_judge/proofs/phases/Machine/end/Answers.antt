@@ -1,4 +1,4 @@
-use Rattle.std.proofs.Common.{◌≡◌, ◌∙◌, ◌==◌, Bool, true, false, not, cond, Option, Err, Ok, Some, None, ap, sym, refl, length}
+use Rattle.std.proofs.Common.{◌≡◌, ◌∙◌, Bool, not, Err, Some, None, ap, sym}
 use Rattle.rv_base.specs.declared.record.Header.{Header}
 use Rattle.rv_base.specs.declared.record.Refusal.{Refusal}
 use Rattle.rv_rules.specs.Checks.{first_broken}

@@ -1,4 +1,4 @@
-use Rattle.std.proofs.Common.{◌≡◌, ◌∙◌, ◌+◌, ◌*◌, ◌<◌, ◌≤◌, Err, Ok, Some, ap, sym, refl, drop, arith}
+use Rattle.std.proofs.Common.{◌∙◌, ◌+◌, Err, Ok, Some, ap, sym, refl, drop, arith}
 use Rattle.std.proofs.lemmas.Bool.{eq-eqb, ne_eqb}
 use Rattle.rv_base.specs.declared.record.Refusal.{Refusal}
 use Rattle.rv_reading.specs.Machine.{Sums}

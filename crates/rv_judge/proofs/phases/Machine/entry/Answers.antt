@@ -1,13 +1,12 @@
-use Rattle.std.proofs.Common.{◌≡◌, ◌∙◌, ◌+◌, ◌-◌, ◌*◌, ◌<◌, ◌≤◌, [], ◌∷◌, true, Err, Ok, Some, None, ap, sym, refl, drop, arith}
+use Rattle.std.proofs.Common.{◌≡◌, ◌∙◌, ◌+◌, ◌-◌, [], ◌∷◌, true, Err, Ok, Some, None, ap, sym, refl, drop, arith}
 use Rattle.rv_base.specs.declared.record.Refusal.{Refusal}
 use Rattle.rv_base.specs.declared.record.TableEntry.{TableEntry}
 use Rattle.rv_base.specs.declared.record.Tuple.{Tuple}
-use Rattle.rv_rules.specs.Checks.{first_broken}
 use Rattle.rv_rules.specs.Reading.{entry_of}
 use Rattle.rv_spec.specs.Tuples.{tuple_last}
 use Rattle.rv_reading.specs.Machine.{Sums, first_tuple, with_tuples}
 use Rattle.rv_reading.specs.Machine.Phase.{Entries}
-use Rattle.rv_judge.specs.Phases.{sums_of, entry_checks}
+use Rattle.rv_judge.specs.Phases.{sums_of}
 use Rattle.rv_judge.proofs.StepFound.{entry_short, entry_false, entry_went, entry_rule}
 use Rattle.rv_judge.proofs.phases.Machine.entry.Goals as goal
 

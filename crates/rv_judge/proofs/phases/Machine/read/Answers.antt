@@ -1,4 +1,4 @@
-use Rattle.std.proofs.Common.{◌≡◌, ◌∙◌, ℕ, sym}
+use Rattle.std.proofs.Common.{◌∙◌, sym}
 use Rattle.rv_judge.specs.Phases.{Went, extent_of, phase_of}
 use Rattle.rv_judge.proofs.ReadingOn.{smaller, goes, is_within, is_last}
 use Rattle.rv_judge.proofs.phases.Machine.read.Goals as goal

@@ -1,4 +1,4 @@
-use Rattle.std.proofs.Common.{◌≡◌, ◌∙◌, ◌+◌, ◌-◌, ◌*◌, ◌<◌, ◌≤◌, ℕ, List, true, map, Err, Ok, Some, None, ap, sym, subst, refl, drop, get_or, arith}
+use Rattle.std.proofs.Common.{◌∙◌, List, true, map, Err, Ok, Some, ap, sym, subst, refl, drop, arith}
 use Rattle.rv_base.specs.declared.record.Access.{Access}
 use Rattle.rv_base.specs.declared.record.Refusal.{Refusal}
 use Rattle.rv_rules.specs.RowRules.{row_rule}

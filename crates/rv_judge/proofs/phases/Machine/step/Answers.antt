@@ -1,4 +1,4 @@
-use Rattle.std.proofs.Common.{◌≡◌, ◌∙◌, ℕ, ap}
+use Rattle.std.proofs.Common.{◌∙◌, ℕ, ap}
 use Rattle.rv_judge.specs.declared.phases.Phase.TheVariants.{Shards, Rows}
 use Rattle.rv_judge.proofs.ReadingOn.{went_at}
 use Rattle.rv_judge.proofs.phases.Machine.step.Goals as goal

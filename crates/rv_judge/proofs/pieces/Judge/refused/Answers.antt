@@ -1,4 +1,4 @@
-use Rattle.std.proofs.Common.{◌≡◌, ◌∙◌, [], Result, Ok, ap, sym, subst}
+use Rattle.std.proofs.Common.{◌∙◌, [], Result, ap, sym, subst}
 use Rattle.rv_base.specs.declared.record.Refusal.{Refusal}
 use Rattle.rv_judge.specs.Held.{Held, IsState, comes, state_of}
 use Rattle.rv_judge.specs.declared.held.Reading.{Reading}

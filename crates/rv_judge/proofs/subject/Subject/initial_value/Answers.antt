@@ -1,4 +1,4 @@
-use Rattle.std.proofs.Common.{◌≡◌, ◌∙◌, ap, sym}
+use Rattle.std.proofs.Common.{◌∙◌, ap, sym}
 use Rattle.rv_spec.specs.Words.{word}
 use Rattle.rv_spec.specs.Elf.{Image, image}
 use Rattle.rv_elf.specs.Loaded.{loaded}
