@@ -21,7 +21,7 @@ use Rattle.rv_book.specs.Journal.{BookState, piece_at}
 use Rattle.rv_judge.specs.Subject.{Subject}
 use Rattle.rv_judge.specs.Alone.{can_stand, read_alone, stated}
 use Rattle.rv_panel.specs.Pieces.{piece_of, shard_piece}
-use Rattle.rv_panel.specs.Chaining.{RowsStand, AreChecked, AreDigests, IsLinked, verdict_from}
+use Rattle.rv_panel.specs.Chaining.{AreChecked, AreDigests, IsLinked, verdict_from}
 use Rattle.rv_panel.proofs.ShardParts.{shard_read, is_shard_read}
 use Rattle.rv_panel.proofs.ShardSteps.{place_stated, no_head, displaced, refuses, goes_on, shard_events}
 use Rattle.rv_panel.proofs.StartLaws.{behind_more}
@@ -54,9 +54,9 @@ module _ (lanes : Lanes) (s : Subject) where
     pub digests : AreDigests lanes events piece.reads.lanes piece.writes.lanes
     pub verdict : (n : ℕ) (es : List Event) → verdict_from lanes s (suc n) i p es rest ≡ verdict_from lanes s n (i + 1) piece.place (es ++ events) (drop (shard_size rest) rest)
 
-  goes_by : RowsStand s.input s.output → (i : ℕ) (p : Place) (rest : List ℕ) (piece : Piece) (q : Result (Reading Shard) Refusal) → IsPlace p s.input s.output → read_at i p rest ≡ q → piece ≡ piece_of i q → piece.fault ≡ None → Goes i p rest piece
-  goes_by stand i p rest piece (Ok x) is read one good =
-      let x_is = is_shard_read lanes s.elf s.input s.header s.output stand i p rest x read in
+  goes_by : (i : ℕ) (p : Place) (rest : List ℕ) (piece : Piece) (q : Result (Reading Shard) Refusal) → IsPlace p s.input s.output → read_at i p rest ≡ q → piece ≡ piece_of i q → piece.fault ≡ None → Goes i p rest piece
+  goes_by i p rest piece (Ok x) is read one good =
+      let x_is = is_shard_read lanes s.elf s.input s.header s.output i p rest x read in
       let place : x.place ≡ piece.place = sym (ap (λ (q : Piece). q.place) one) in
       record {
         events = shard_events lanes s.elf s.input s.header s.output i x;
@@ -67,7 +67,7 @@ module _ (lanes : Lanes) (s : Subject) where
             ∙ ap (λ q. verdict_from lanes s n (i + 1) q (es ++ shard_events lanes s.elf s.input s.header s.output i x) x.left) place
             ∙ ap (λ (xs : List ℕ). verdict_from lanes s n (i + 1) piece.place (es ++ shard_events lanes s.elf s.input s.header s.output i x) xs) x_is.left_is;
       }
-  goes_by stand i p rest piece (Err r) is read one good = let bad : piece.fault ≡ Some r = ap (λ (q : Piece). q.fault) one in absurd cc
+  goes_by i p rest piece (Err r) is read one good = let bad : piece.fault ≡ Some r = ap (λ (q : Piece). q.fault) one in absurd cc
 
   refused_by_piece : (i : ℕ) (p : Place) (rest : List ℕ) (piece : Piece) (r : Refusal) (q : Result (Reading Shard) Refusal) → read_at i p rest ≡ q → piece ≡ piece_of i q → piece.fault ≡ Some r → read_at i p rest ≡ Err r
   refused_by_piece i p rest piece r (Ok x) read one bad = let good : piece.fault ≡ None = ap (λ (q : Piece). q.fault) one in absurd cc
@@ -80,9 +80,9 @@ module _ (lanes : Lanes) (s : Subject) where
     pub stands : IsPlace p s.input s.output
     pub piece_is : piece ≡ piece_of i (read_alone lanes s i rest)
 
-  pub goes : RowsStand s.input s.output → (i : ℕ) (p : Place) (rest : List ℕ) (piece : Piece) → IsPieceAt i p rest piece → piece.fault ≡ None → Goes i p rest piece
-  goes stand i p rest piece k good =
-      goes_by stand i p rest piece (read_alone lanes s i rest) k.stands (sym (alone_is i p rest k.long k.same k.stands)) k.piece_is good
+  pub goes : (i : ℕ) (p : Place) (rest : List ℕ) (piece : Piece) → IsPieceAt i p rest piece → piece.fault ≡ None → Goes i p rest piece
+  goes i p rest piece k good =
+      goes_by i p rest piece (read_alone lanes s i rest) k.stands (sym (alone_is i p rest k.long k.same k.stands)) k.piece_is good
 
   pub piece_refuses : (i : ℕ) (p : Place) (rest : List ℕ) (piece : Piece) (r : Refusal) → IsPieceAt i p rest piece → piece.fault ≡ Some r → (n : ℕ) (es : List Event) → verdict_from lanes s (suc n) i p es rest ≡ Refuse r
   piece_refuses i p rest piece r k bad n es =

@@ -6,3 +6,5 @@ pub mod FrontSteps
 pub mod StartLaws
 pub mod ChainLaws
 pub mod EndLaws
+pub mod PieceLaws
+pub mod PanelLaws

@@ -33,11 +33,6 @@ subject_of files h output = record { elf = files.elf; input = files.input; heade
 abbrev pub verdict_from : Lanes → Subject → ℕ → ℕ → Place → List Event → List ℕ → Verdict
 verdict_from lanes s n i p es bytes = told s.header (runs true lanes s.elf s.input s.header s.output WholeFile (Shards n i p (event_sums true lanes es)) bytes)
 
--- where no rule is broken the run can stand behind a row
-abbrev pub RowsStand : List ℕ → List ℕ → Type 0
-RowsStand input output =
-    (version : ℕ) (row : Row) (step : ℕ) (p : Place) (last : Option End) → row_rule version row step p last input output ≡ None → IsPlace p input output → IsPlace (place_after version row p input) input output
-
 -- The pieces of all shards, as far as their heads are there.
 pub record AreChecked (lanes : Lanes) (s : Subject) (shards : List ℕ) (book : BookState) : Type 0 where
   pub found : ℕ

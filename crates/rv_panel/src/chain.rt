@@ -3,7 +3,7 @@
 ghost use Rattle.std.specs.Prelude.{◌≡◌, []};
 ghost use Rattle.rv_rules.specs.Reading.{same_place};
 ghost use Rattle.rv_rowcheck.specs.RowChecking.{IsPlace};
-ghost use Rattle.rv_panel.specs.Chaining.{AreChecked, Chains, IsLinked, RowsStand, subject_of, verdict_from};
+ghost use Rattle.rv_panel.specs.Chaining.{AreChecked, Chains, IsLinked, subject_of, verdict_from};
 
 use crate::starts::{behind, head_at, shard_size};
 use rv_base::rules::{SHARD_HEAD, SHORT};
@@ -50,7 +50,6 @@ pub(crate) fn chain_shards<'a, L: Lanes, T: Task>(
     shards: &'a [u8],
     book: &Book<'_, T>,
 ) -> Result<Chained<'a>, Refusal>
-    requires stands { RowsStand program.now.input output.now }
     requires first { IsPlace first program.now.input output.now }
     requires checked { AreChecked L.lanes (subject_of program.now header.now output.now) shards.now book.now }
     ensures {

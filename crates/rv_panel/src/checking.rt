@@ -1,8 +1,10 @@
 //! Checking a record file by workers.
 
 ghost use Rattle.std.specs.Prelude.{◌≡◌, ◌≤◌, ◌+◌, ℕ, List, IfOk, drop, length, take};
+ghost use Rattle.rv_spec.specs.Digest.{Lanes as LanesOf};
 ghost use Rattle.rv_spec.specs.Tuples.{Event};
 ghost use Rattle.rv_rules.specs.Verdict.{verdict as verdict_is};
+ghost use Rattle.rv_judge.specs.Conclusions.{AcceptsRecords, IsSound};
 ghost use Rattle.rv_judge.specs.Subject.{IsChecked};
 ghost use Rattle.rv_panel.specs.Chaining.{AreDigests, subject_of, verdict_from};
 
@@ -15,6 +17,7 @@ use rv_base::rules::SHORT;
 use rv_base::{Header, NoMemory, Place, Refusal, Verdict};
 use rv_digest::Lanes;
 use rv_host::Gate;
+use rv_judge::laws::verdicts_conclude;
 use rv_judge::{check_end, check_table};
 use rv_program::{Program, check_front};
 use rv_team::run_team;
@@ -57,8 +60,8 @@ fn behind_header(file: &[u8], size: usize) -> (&[u8], &[u8])
     )
 }
 
-/// The verdict on a record file, for a program and its input, by `workers` workers, each in a thread of its own where threads can be had: it is the verdict of `rv_judge::judge`. Workers check shards from the places that their heads state, and this thread chains the shards in order, and then judges the table and the end. A worker passes the gate before each shard.
-pub fn panel<L: Lanes + Sync, G: Gate, R: Threads + Wait + Sync>(
+/// The verdict by the definition.
+fn verdict_by_team<L: Lanes + Sync, G: Gate, R: Threads + Wait + Sync>(
     rt: &R,
     alloc: Global,
     program: &Program<'_>,
@@ -91,4 +94,35 @@ pub fn panel<L: Lanes + Sync, G: Gate, R: Threads + Wait + Sync>(
         Ok(chained) => Ok(finish(program, &header, &chained, lanes)),
         Err(refusal) => Ok(Verdict::Refuse(refusal)),
     }
+}
+
+/// What the laws of verdicts say of a program that is open, and a file.
+fn concludes(program: &Program<'_>, file: &[u8])
+    ensures sound { (lanes : LanesOf) → IsSound lanes program.now.elf program.now.input file.now (verdict_is lanes program.now.elf program.now.input file.now) }
+    ensures accepts { (lanes : LanesOf) → AcceptsRecords lanes program.now.elf program.now.input file.now (verdict_is lanes program.now.elf program.now.input file.now) }
+{
+    verdicts_conclude();
+    let _image = program.image();
+    let _input = program.input();
+}
+
+/// The verdict on a record file, for a program and its input, by `workers` workers, each in a thread of its own where threads can be had: it is the verdict of `rv_judge::judge`. Workers check shards from the places that their heads state, and this thread chains the shards in order, and then judges the table and the end. A worker passes the gate before each shard.
+pub fn panel<L: Lanes + Sync, G: Gate, R: Threads + Wait + Sync>(
+    rt: &R,
+    alloc: Global,
+    program: &Program<'_>,
+    file: &[u8],
+    lanes: &L,
+    workers: u32,
+    gate: &G,
+) -> Result<Verdict, NoMemory>
+    requires { (1 ≤ workers) × (workers ≤ WORKERS_LIMIT) }
+    ensures verdict { IfOk result (λ v. v ≡ verdict_is L.lanes program.now.elf program.now.input file.now) }
+    // What is accepted is the record of the run, or a collision of the digest.
+    ensures sound { IfOk result (IsSound L.lanes program.now.elf program.now.input file.now) }
+    // The record of a run is accepted.
+    ensures accepts { IfOk result (AcceptsRecords L.lanes program.now.elf program.now.input file.now) }
+{
+    concludes(program, file);
+    verdict_by_team(rt, alloc, program, file, lanes, workers, gate)
 }

@@ -5,6 +5,8 @@ mod chain;
 mod checking;
 mod starts;
 mod task;
+#[cfg(test)]
+mod tests;
 
 pub use checking::panel;
 pub use rv_base::{NoMemory, Verdict};

@@ -1,4 +1,5 @@
 mod Compared
 mod FirstIn
 mod ExpectedPlace
-mod AfterRow
+pub mod AfterRow
+pub mod Lemmas

@@ -89,7 +89,7 @@ loop-i-preserved g c =
     let some = in_book lanes s shards rest i c.args.book.now k lt inv.at in
     let found : piece_at c.args.book.now i ≡ Some c.in-Some.piece.now = c.in-Some.ensures in
     let piece : c.in-Some.piece.now ≡ piece_of i (read_alone lanes s i rest) = cc in
-    let on = goes lanes s c.requires.stands i c.loop-i.place rest c.in-Some.piece.now (record { long = c.in_ok-size.ensures.0; same = c.in_ok-size.ensures.1; stands = inv.stands; piece_is = piece }) c.in_default-fault.is in
+    let on = goes lanes s i c.loop-i.place rest c.in-Some.piece.now (record { long = c.in_ok-size.ensures.0; same = c.in_ok-size.ensures.1; stands = inv.stands; piece_is = piece }) c.in_default-fault.is in
     let es = inv.events.0 in
     let next = next_rest shards rest c.behind-rest.result.now i c.in_ok-size.size c.behind-rest.ensures c.in_ok-size.ensures.2 inv.at in
     record {
