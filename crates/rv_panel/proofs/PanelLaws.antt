@@ -1,5 +1,5 @@
 -- What the numbers of a header say of its shards, and the verdict where not one head is there.
-use Rattle.std.proofs.Common.{◌≡◌, ℕ, zero, suc, ◌+◌, ◌-◌, ◌*◌, ◌<◌, ◌≤◌, Bool, true, ◌&&◌, ◌||◌, ◌==◌, nat_le, List, [], ◌∷◌, length, None, refl, sym, ap, subst, ◌∙◌, inl, arith}
+use Rattle.std.proofs.Common.{◌≡◌, ℕ, zero, suc, ◌+◌, ◌-◌, ◌*◌, ◌<◌, ◌≤◌, Bool, true, ◌&&◌, ◌||◌, ◌==◌, nat_le, List, [], ◌∷◌, length, take, drop, None, Ok, refl, sym, ap, subst, ◌∙◌, inl, arith}
 use Rattle.std.specs.Int.{div_ceil, is_in_range}
 use Rattle.std.proofs.lemmas.Bool.{leb-true, eqb-true, and_parts}
 use Rattle.std.proofs.lemmas.Grind.{div_ceil_times}
@@ -7,20 +7,24 @@ use Rattle.rv_base.specs.declared.record.Header.{Header}
 use Rattle.rv_base.specs.declared.record.Place.{Place}
 use Rattle.rv_base.specs.declared.record.Verdict.TheVariants.{Refuse}
 use Rattle.rv_spec.specs.Digest.{Lanes}
-use Rattle.rv_rules.specs.Checks.{Check, first_broken}
-use Rattle.rv_rules.specs.Reading.{number_checks}
+use Rattle.rv_spec.specs.Words.{u32_at}
+use Rattle.rv_rules.specs.Checks.{Check, first_broken, unless_broken}
+use Rattle.rv_rules.specs.Reading.{header_checks, header_of, number_checks}
+use Rattle.rv_rules.specs.Verdict.{verdict}
 use Rattle.rv_row.proofs.Lemmas.{all_hold}
 use Rattle.rv_file.specs.Parsing.{behind_shards}
-use Rattle.rv_judge.specs.Subject.{Subject}
+use Rattle.rv_judge.specs.Subject.{Subject, IsChecked}
+use Rattle.rv_judge.proofs.Lemmas.{header_checked}
 use Rattle.rv_panel.specs.Starts.{AreStarts}
 use Rattle.rv_panel.specs.Chaining.{verdict_from}
 use Rattle.rv_panel.proofs.StartLaws.{behind_zero}
+use Rattle.rv_panel.proofs.FrontSteps.{front_taken}
 use Rattle.rv_panel.proofs.ChainLaws.{counted, link_refuses}
 
 some_of : (steps size n : ℕ) → 1 ≤ steps → 1 ≤ size → n ≡ div_ceil steps size → 1 ≤ n
 some_of steps size zero some sized is =
     let room : steps ≤ div_ceil steps size * size = (div_ceil_times steps size (omega (arith, sized))).0 in
-    let none : div_ceil steps size * size ≡ 0 = ap (λ k. k * size) (sym is) in
+    let none : div_ceil steps size * size ≡ 0 * size = ap (λ k. k * size) (sym is) in
     absurd (omega (arith, some, room, none))
 some_of steps size (suc n) some sized is = omega arith
 
@@ -46,3 +50,20 @@ module _ (lanes : Lanes) (s : Subject) where
       let short : length bytes < 32 = subst (λ (xs : List ℕ). length xs < 32) at (are.next (omega (arith, none, some))) in
       counted lanes s (verdict_from lanes s total 0 p [] bytes) total 0 p [] bytes (omega (arith, some)) (ap (λ k. verdict_from lanes s k 0 p [] bytes) all)
       ∙ link_refuses lanes s 0 p bytes (record { shard = 0; row = 0; rule = 1 }) (inl (short, refl)) (total - (0 + 1)) []
+
+-- A header that breaks no check is followed by its output and the shards, whose verdict is the file's.
+module _ (lanes : Lanes) (elf input file : List ℕ) (h : Header) (output shards : List ℕ) where
+  abbrev pub Passed : Type 0
+  Passed = Ok h ≡ unless_broken 0 0 (header_checks true lanes elf input file) (header_of file)
+
+  pub header_passed : Passed → IsChecked h
+  header_passed e = header_checked lanes elf input file h (sym e)
+
+  pub whole_is : Passed → output ≡ take h.length (drop 173 file) → shards ≡ drop (173 + h.length) file → (pc : ℕ) → pc ≡ u32_at elf 24
+      → verdict lanes elf input file ≡ verdict_from lanes (record { elf = elf; input = input; header = h; output = output }) h.shards 0 (record { pc = pc; input = 0; output = 0 }) [] shards
+  whole_is e output_is shards_are pc pc_is =
+      let output_from = sym output_is in
+      let shards_from = sym shards_are in
+      let pc_from = sym pc_is in
+      front_taken lanes elf input file h (sym e)
+      ∙ (λ t. verdict_from lanes (record { elf = elf; input = input; header = h; output = output_from t }) h.shards 0 (record { pc = pc_from t; input = 0; output = 0 }) [] (shards_from t))

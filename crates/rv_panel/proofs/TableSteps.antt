@@ -13,7 +13,6 @@ use Rattle.rv_spec.specs.Digest.{Lanes, digest}
 use Rattle.rv_spec.specs.Tuples.{Event, tuple_read, tuple_written, tuple_last}
 use Rattle.rv_rules.specs.Checks.{Check, first_broken, refused_by, unless_broken, ◌>>=◌}
 use Rattle.rv_rules.specs.Reading.{read_entry, read_entries}
-use Rattle.rv_file.proofs.Lemmas.{bind_ok, ok_is}
 use Rattle.rv_reading.specs.Stream.{State, onwards, reads}
 use Rattle.rv_reading.specs.Machine.{Phase, Sums, on_if, event_sums, tuple_sums, last_cell, first_tuple, step, step_to, told}
 use Rattle.rv_reading.specs.Machine.Phase.{Shards, Entries}
@@ -21,18 +20,6 @@ use Rattle.rv_reading.specs.Machine.Extent.{WholeFile}
 use Rattle.rv_reading.specs.Parts.{runs}
 use Rattle.rv_reading.proofs.Lemmas.{entries_are_read, extents_are_streams, reads-step}
 use Rattle.rv_panel.proofs.Binding.{bind_assoc, checks_bind, checks_value}
-
--- so many entries are read as are counted
-pub entries_count : (n : ℕ) (h : Header) (j : ℕ) (before : Option ℕ) (bytes : List ℕ) (x : List TableEntry × List ℕ) → read_entries n h j before bytes ≡ Ok x → length x.0 ≡ n
-unfolding read_entries
-entries_count zero h j before bytes x e =
-    let none : List TableEntry × List ℕ = ([], bytes) in
-    ap (λ (y : List TableEntry × List ℕ). length y.0) (sym (ok_is none x e))
-entries_count (suc n) h j before bytes x e =
-    let put : TableEntry × List ℕ → List TableEntry × List ℕ → List TableEntry × List ℕ = λ first others. (first.0 ∷ others.0, others.1) in
-    let a = bind_ok (read_entry h j before bytes) (λ first. read_entries n h (j + 1) (Some (first.0).cell) first.1 >>= λ others. Ok (put first others)) x e in
-    let b = bind_ok (read_entries n h (j + 1) (Some (a.0.0).cell) a.0.1) (λ others. Ok (put a.0 others)) x a.2 in
-    ap (λ (y : List TableEntry × List ℕ). length y.0) (sym (ok_is (put a.0 b.0) x b.2)) ∙ ap suc (entries_count n h (j + 1) (Some (a.0.0).cell) a.0.1 b.0 b.1)
 
 module _ (lanes : Lanes) (elf input : List ℕ) (h : Header) (output : List ℕ) where
   abbrev run : Phase → List ℕ → State Phase
@@ -94,11 +81,7 @@ module _ (lanes : Lanes) (elf input : List ℕ) (h : Header) (output : List ℕ)
   table_refused i p es bytes r e = ap (told h) (table_then_end i p es bytes ∙ ap (λ s. s >>= λ x. run (last_phase (u32_at bytes 0) p es x.0) x.1) e)
 
   pub table_taken : (i : ℕ) (p : Place) (es : List Event) (bytes : List ℕ) (x : List TableEntry × List ℕ) → table_read bytes ≡ Ok x
-      → told h (run (Shards zero i p (event_sums true lanes es)) bytes) ≡ told h (unless_broken h.shards (length x.0) (last_checks p (all_sums es x.0) x.1) p)
+      → told h (run (Shards zero i p (event_sums true lanes es)) bytes) ≡ told h (unless_broken h.shards (u32_at bytes 0) (last_checks p (all_sums es x.0) x.1) p)
   table_taken i p es bytes x e =
-      let count = u32_at bytes 0 in
-      let a = bind_ok (unless_broken h.shards 0 ((1, nat_le 4 (length bytes)) ∷ []) (drop 4 bytes)) (read_entries count h 0 None) x e in
-      let size : count ≡ length x.0 = sym (entries_count count h 0 None a.0 x a.2) in
-      ap (told h) (table_then_end i p es bytes ∙ ap (λ s. s >>= λ y. run (last_phase count p es y.0) y.1) e)
-      ∙ at_end count p es x.0 x.1
-      ∙ ap (λ n. told h (unless_broken h.shards n (last_checks p (all_sums es x.0) x.1) p)) size
+      ap (told h) (table_then_end i p es bytes ∙ ap (λ s. s >>= λ y. run (last_phase (u32_at bytes 0) p es y.0) y.1) e)
+      ∙ at_end (u32_at bytes 0) p es x.0 x.1
