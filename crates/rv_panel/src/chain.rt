@@ -52,10 +52,8 @@ pub(crate) fn chain_shards<'a, L: Lanes, T: Task>(
 ) -> Result<Chained<'a>, Refusal>
     requires first { IsPlace first program.now.input output.now }
     requires checked { AreChecked L.lanes (subject_of program.now header.now output.now) shards.now book.now }
-    ensures {
-      let s = subject_of program.now header.now output.now in
-      Chains L.lanes s (verdict_from L.lanes s header.now.shards 0 first [] shards.now) result
-    }
+    ensures { let s = subject_of program.now header.now output.now in
+        Chains L.lanes s (verdict_from L.lanes s header.now.shards 0 first [] shards.now) result }
 {
     let mut rest = shards;
     let mut place = first;

@@ -45,7 +45,14 @@ fn finish<L: Lanes>(
     let mut writes = chained.writes;
     writes.add(&seen.writes);
     let trailing = seen.used < chained.rest.len();
-    check_end(header, chained.place, &reads, &writes, seen.entries, trailing)
+    check_end(
+        header,
+        chained.place,
+        &reads,
+        &writes,
+        seen.entries,
+        trailing,
+    )
 }
 
 /// The bytes of the output, and those behind it.

@@ -38,11 +38,7 @@ pub(crate) fn shard_size(head: &ShardHead) -> usize
 }
 
 /// Where the first shards begin, as far as their heads are there.
-pub(crate) fn find_starts(
-    alloc: Global,
-    shards: u32,
-    bytes: &[u8],
-) -> Result<Vec<usize>, NoMemory>
+pub(crate) fn find_starts(alloc: Global, shards: u32, bytes: &[u8]) -> Result<Vec<usize>, NoMemory>
     ensures { IfOk result (λ v. AreStarts bytes.now shards v.items) }
 {
     let mut starts = Vec::new(alloc);

@@ -109,7 +109,14 @@ impl<'a, 'p, L: Lanes + Sync> Task for ShardTask<'a, 'p, L> {
 
     fn work(&self, alloc: Global, i: u32) -> Result<Piece, NoMemory> {
         let bytes = behind(self.shards, self.starts[i as usize]);
-        let seen = check_shard(self.program, &self.header, self.output, bytes, i, self.lanes);
+        let seen = check_shard(
+            self.program,
+            &self.header,
+            self.output,
+            bytes,
+            i,
+            self.lanes,
+        );
         Ok(piece_of(alloc, i, seen))
     }
 

@@ -99,19 +99,21 @@ loop-i-preserved g c =
       events = (
         es ++ on.events,
         digests_more lanes es on.events c.add.new.self.lanes c.add-in-loop-i.new.self.lanes
-        (c.add.ensures.of_list lanes (map tuple_read es) (map tuple_read on.events) inv.events.1.reads_are on.digests.reads_are)
-        (c.add-in-loop-i.ensures.of_list lanes (map tuple_written es) (map tuple_written on.events) inv.events.1.writes_are on.digests.writes_are),
+            (c.add.ensures.of_list lanes (map tuple_read es) (map tuple_read on.events) inv.events.1.reads_are on.digests.reads_are)
+            (c.add-in-loop-i.ensures.of_list lanes (map tuple_written es) (map tuple_written on.events) inv.events.1.writes_are on.digests.writes_are),
         counted lanes s _ n i c.loop-i.place es rest c.loop-i-test.true inv.events.2
-        ∙ on.verdict (n - (i + 1)) es
-        ∙ ap (λ (xs : List ℕ). verdict_from lanes s (n - (i + 1)) (i + 1) c.in-Some.piece.now.place (es ++ on.events) xs) (sym next.0),
+            ∙ on.verdict (n - (i + 1)) es
+            ∙ ap (λ (xs : List ℕ). verdict_from lanes s (n - (i + 1)) (i + 1) c.in-Some.piece.now.place (es ++ on.events) xs) (sym next.0),
       );
     }
 
 pub returns : goal.returns
 returns g c =
     let s = subject_of c.args.program.now c.args.header.now c.args.output.now in
-    let es = c.loop-i.invariant.events in
-    (es.0, record {
-      digests = es.1;
-      verdict = counted_all g.L.Lanes.lanes s _ c.args.header.now.shards c.loop-i.i c.loop-i.place es.0 c.loop-i.rest.now c.loop-i-test.false c.loop-i.auto.i-end es.2;
-    })
+    let es = c.loop-i.invariant.events in (
+      es.0,
+      record {
+        digests = es.1;
+        verdict = counted_all g.L.Lanes.lanes s _ c.args.header.now.shards c.loop-i.i c.loop-i.place es.0 c.loop-i.rest.now c.loop-i-test.false c.loop-i.auto.i-end es.2;
+      },
+    )
