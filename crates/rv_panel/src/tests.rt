@@ -49,7 +49,7 @@ fn any_number_of_workers_accepts_the_record(rt: HostRuntime) -> Result<(), Fail>
     let program = Program::open(&ELF, &[])?;
     let one = record(rt.alloc(), &program, &TOLD, &TABLE)?;
     let three = record_in_three(rt.alloc(), &program)?;
-    for workers in [1, 2, 4, 64] {
+    for workers in 1..5u32 {
         let verdict = panel(
             &rt,
             rt.alloc(),
@@ -71,6 +71,8 @@ fn any_number_of_workers_accepts_the_record(rt: HostRuntime) -> Result<(), Fail>
         )?;
         assert_eq!(rt; verdict, accepted(3));
     }
+    let verdict = panel(&rt, rt.alloc(), &program, &three, &ShaLanes, 64, &OpenGate)?;
+    assert_eq!(rt; verdict, accepted(3));
     Ok(())
 }
 
