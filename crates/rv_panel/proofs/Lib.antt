@@ -1,0 +1,10 @@
+pub mod Binding
+pub mod ShardParts
+pub mod ShardSteps
+pub mod TableSteps
+pub mod FrontSteps
+pub mod StartLaws
+pub mod ChainLaws
+pub mod EndLaws
+pub mod PieceLaws
+pub mod PanelLaws
