@@ -67,7 +67,13 @@ fn worked_run(rt: HostRuntime) -> Result<(), Fail> {
     if let Ok(points) = found {
         assert_eq!(&rt; points.steps(), 3);
         assert_eq!(&rt; points.shards(), 3);
-        assert_eq!(&rt; points.end(), End { kind: EXIT, code: 42 });
+        assert_eq!(&rt;
+            points.end(),
+            End {
+                kind: EXIT,
+                code: 42
+            }
+        );
         assert_eq!(&rt; points.consumed(), 0);
         assert!(&rt; points.output().is_empty());
         assert_eq!(&rt; points.size(), 1);
@@ -89,7 +95,14 @@ fn worked_run(rt: HostRuntime) -> Result<(), Fail> {
                 entry(0x4000_0011, 93, 23),
             ];
             assert_eq!(&rt; start.step, 2);
-            assert_eq!(&rt; start.place, Place { pc: 0x10008, input: 0, output: 0 });
+            assert_eq!(&rt;
+                start.place,
+                Place {
+                    pc: 0x10008,
+                    input: 0,
+                    output: 0
+                }
+            );
             assert!(&rt; start.cells.list() == cells.as_slice());
         }
     }
@@ -100,6 +113,9 @@ fn worked_run(rt: HostRuntime) -> Result<(), Fail> {
 fn refusals(rt: HostRuntime) -> Result<(), Fail> {
     assert_eq!(&rt; shards(rt.alloc(), &EXITS, 1, 2)?, Err(RunFault::Budget));
     assert_eq!(&rt; shards(rt.alloc(), &LOOP, 2, 100_000)?, Ok(32_769));
-    assert_eq!(&rt; shards(rt.alloc(), &LOOP, 1, 100_000)?, Err(RunFault::Shards { needed: 65_537 }));
+    assert_eq!(&rt;
+        shards(rt.alloc(), &LOOP, 1, 100_000)?,
+        Err(RunFault::Shards { needed: 65_537 })
+    );
     Ok(())
 }

@@ -156,6 +156,7 @@ settle_settled w s s' s'' l file x r h faultless read is says =
   where
     still : IsUnchanged s'' s''
     still = record { files = refl; reads = λ _. refl; writes = λ _. refl }
+
     done : (told : Told) → r ≡ Ok told → PerformsBehind (answer (settled l.elf (judge sha_lanes l.elf l.input file))) s'' s'' (Ok told)
     done told it =
         let said : TellsOutcome (settled_outcome x) (Ok told) = subst (TellsOutcome (settled_outcome x)) it says in

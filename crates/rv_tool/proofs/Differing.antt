@@ -63,6 +63,7 @@ before-is t u (inr h) = or_right (nat_lt t.cell u.cell) _ (both_true (t.cell == 
     or_right : (a b : Bool) → b ≡ true → (a || b) ≡ true
     or_right true b e = refl
     or_right false b e = e
+
     rest : ((t.value < u.value) ⊎ ((t.value ≡ u.value) × (t.time < u.time))) → (nat_lt t.value u.value || t.value == u.value && nat_lt t.time u.time) ≡ true
     rest (inl k) = ap (λ b. b || t.value == u.value && nat_lt t.time u.time) (lt-ltb t.value u.value k)
     rest (inr k) = or_right (nat_lt t.value u.value) _ (both_true (t.value == u.value) (nat_lt t.time u.time) (eq-eqb t.value u.value k.0) (lt-ltb t.time u.time k.1))
@@ -73,6 +74,7 @@ is-before t u h = go (nat_lt t.cell u.cell) refl h
     third : (b : Bool) → nat_lt t.value u.value ≡ b → (b || t.value == u.value && nat_lt t.time u.time) ≡ true → (t.value < u.value) ⊎ ((t.value ≡ u.value) × (t.time < u.time))
     third true e k = inl (ltb-true t.value u.value e)
     third false e k = inr (eqb-true t.value u.value (left_true (t.value == u.value) (nat_lt t.time u.time) k), ltb-true t.time u.time (right_true (t.value == u.value) (nat_lt t.time u.time) k))
+
     go : (b : Bool) → nat_lt t.cell u.cell ≡ b → (b || t.cell == u.cell && (nat_lt t.value u.value || t.value == u.value && nat_lt t.time u.time)) ≡ true → IsBefore t u
     go true e k = inl (ltb-true t.cell u.cell e)
     go false e k = inr (eqb-true t.cell u.cell (left_true (t.cell == u.cell) (nat_lt t.value u.value || t.value == u.value && nat_lt t.time u.time) k), third (nat_lt t.value u.value) refl (right_true (t.cell == u.cell) (nat_lt t.value u.value || t.value == u.value && nat_lt t.time u.time) k))
@@ -132,10 +134,13 @@ least-is xs ys t h =
   where
     differs-in : (u : Tuple) → In u (differing xs ys) → count u xs ≢ count u ys
     differs-in u there = differs-not xs ys u (filter-passes (λ v. not (count v xs == count v ys)) u (xs ++ ys) there)
+
     here : In t (differing xs ys)
     here = in-differing xs ys t h.differs
+
     least : (u : Tuple) → In u (differing xs ys) → not (is_before u t) ≡ true
     least u there = not-before u t (λ before. differs-in u there (h.least u before))
+
     only : (u : Tuple) → In u (differing xs ys) → list_all (λ v. not (is_before v u)) (differing xs ys) ≡ true → u ≡ t
     only u there passes = elim (equal_or_before u t) [
       | inl same ↦ same

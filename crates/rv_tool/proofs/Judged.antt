@@ -70,10 +70,13 @@ decided before name elf input front at judge fed answer r h stays is = go before
   where
     refused : answer ≡ Refuse r
     refused = is ∙ stays []
+
     so : (rest : List ℕ) → answer ≡ verdict sha_lanes elf input ((front ++ fed) ++ rest)
     so rest = refused ∙ sym (stays rest) ∙ h.verdict_is rest
+
     sound : (contents : List ℕ) → IsSound sha_lanes elf input contents answer
     sound contents = subst (IsSound sha_lanes elf input contents) (sym refused) tt
+
     go : (o : Option Files) → before.files ≡ o → Concludes o name elf input answer
     go None e = (front ++ fed, tt, so [] ∙ ap (verdict sha_lanes elf input) (append-nil (front ++ fed)), sound (front ++ fed))
     go (Some told) e =

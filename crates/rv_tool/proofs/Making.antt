@@ -94,10 +94,12 @@ unsurveyed w elf input s s' Read h k = absurd k
 unsurveyed w elf input s s' Write h k = absurd k
 unsurveyed w elf input s s' Memory h k = h
 unsurveyed w elf input s s' (Limit what) h k =
-    let needs = k.1.1 in
-    (h, ap (λ x. refuses (Limit x)) k.0
-    ∙ sym (ap (λ b. if b then refuses (Limit limited.Shards) else made_outcome w needs.steps needs.end (record_file sha_lanes w.version elf input w.shard needs.steps needs.end)) (lt-ltb SHARDS_LIMIT (div_ceil needs.steps w.shard) (subst (λ n. SHARDS_LIMIT < n) needs.count needs.more)))
-    ∙ sym (ap (made w elf input) (found_within (image w.version elf) input needs.steps w.budget needs.end needs.ends needs.within)))
+    let needs = k.1.1 in (
+      h,
+      ap (λ x. refuses (Limit x)) k.0
+          ∙ sym (ap (λ b. if b then refuses (Limit limited.Shards) else made_outcome w needs.steps needs.end (record_file sha_lanes w.version elf input w.shard needs.steps needs.end)) (lt-ltb SHARDS_LIMIT (div_ceil needs.steps w.shard) (subst (λ n. SHARDS_LIMIT < n) needs.count needs.more)))
+          ∙ sym (ap (made w elf input) (found_within (image w.version elf) input needs.steps w.budget needs.end needs.ends needs.within)),
+    )
 unsurveyed w elf input s s' NotBuilt h k = absurd k
 
 -- ---- the command
@@ -147,7 +149,7 @@ task_due w l i input p q faultless image_is input_is h same = record {
   survey = subst (λ x. IsSurvey (image w.version l.elf) x w.shard w.budget p) input_is (subst (λ k. IsSurvey k input w.shard w.budget p) image_is h);
   bound = omega (arith, ap (λ x. div_ceil x.steps x.size) same, ap (div_ceil p.steps) h.size_is);
   pieces = λ j. ap (λ x. shard_piece sha_lanes x.image x.input x.size j) same ∙ ap (λ k. shard_piece sha_lanes k p.input p.size j) (h.image_is ∙ image_is) ∙ ap (λ x. shard_piece sha_lanes (image w.version l.elf) x p.size j) (h.input_is ∙ input_is)
-  ∙ ap (λ n. shard_piece sha_lanes (image w.version l.elf) l.input n j) h.size_is;
+      ∙ ap (λ n. shard_piece sha_lanes (image w.version l.elf) l.input n j) h.size_is;
 }
 
 pub no_survey : (w : MakeWords) (l : Loaded) (image_of : Image) (input : List ℕ) (s : ShelfView) (f : Fault) → image_of ≡ image w.version l.elf → input ≡ l.input → IsNoSurvey image_of input w.shard w.budget f → PerformsBehind (make_plan w l.elf l.input) s s (Err f)

@@ -36,7 +36,13 @@ pub fn make<S: Shelf>(alloc: Global, words: &Make<'_>, shelf: &mut S) -> Result<
 {
     let loaded = load(alloc, shelf, words.elf, words.input)?;
     let image = image_of(loaded.elf.list(), words.version)?;
-    let points = survey_run(alloc, &image, loaded.input.list(), words.shard, words.budget)?;
+    let points = survey_run(
+        alloc,
+        &image,
+        loaded.input.list(),
+        words.shard,
+        words.budget,
+    )?;
     let task = ShardTask::new(&points, ShaLanes);
     let told = record_alone(alloc, shelf, words, &loaded, &points, &task)?;
     Ok(told)
@@ -59,7 +65,13 @@ pub fn make_by_team<R: Threads + Wait + Sync, S: Shelf, G: Gate>(
 {
     let loaded = load(alloc, shelf, words.elf, words.input)?;
     let image = image_of(loaded.elf.list(), words.version)?;
-    let points = survey_run(alloc, &image, loaded.input.list(), words.shard, words.budget)?;
+    let points = survey_run(
+        alloc,
+        &image,
+        loaded.input.list(),
+        words.shard,
+        words.budget,
+    )?;
     let task = ShardTask::new(&points, ShaLanes);
     let told = record_by_team(rt, alloc, shelf, words, &loaded, &points, &task, gate)?;
     Ok(told)

@@ -19,23 +19,13 @@ use rv_settle::Settled;
 use std::alloc::Global;
 
 /// Judges the record, settles it where it is accepted, and tells of it. It holds the program, the input, the record and all tuples of its accesses.
-pub fn settle<S: Shelf>(
-    alloc: Global,
-    words: &Settle<'_>,
-    shelf: &mut S,
-) -> Result<Told, Fault>
+pub fn settle<S: Shelf>(alloc: Global, words: &Settle<'_>, shelf: &mut S) -> Result<Told, Fault>
     ensures performs { Performs (plan_of (command.settle (settle_words words.now))) (S.view shelf.old) (S.view shelf.new) result }
     ensures headline { IfOk result (λ told. told.status ≡ 0 → IsSettled (S.view shelf.old).files (settle_words words.now)) }
 {
     let loaded = load(alloc, shelf, words.elf, words.input)?;
     let program = open(&loaded)?;
-    let file = read_within(
-        alloc,
-        shelf,
-        words.record,
-        RECORD_LIMIT,
-        Limited::Record,
-    )?;
+    let file = read_within(alloc, shelf, words.record, RECORD_LIMIT, Limited::Record)?;
     let Ok(settled) = rv_settle::settle(alloc, &program, file.list(), ShaLanes) else {
         return Err(Fault::Memory);
     };

@@ -13,7 +13,13 @@ fn the_first_record_is_accepted_and_settled(rt: HostRuntime) -> Result<(), Fail>
     let mut shelf = shelf_with(&rt, &PROGRAM)?;
     shelf.put("record", &spelled(&rt, &RECORD)?)?;
     expect(&rt, "check elf input record 1", &mut shelf, 0, ACCEPTED)?;
-    expect(&rt, "settle elf input record", &mut shelf, 0, "settled run steps=3\n")?;
+    expect(
+        &rt,
+        "settle elf input record",
+        &mut shelf,
+        0,
+        "settled run steps=3\n",
+    )?;
     // also where each read gives one byte
     shelf.limit_read(1);
     expect(&rt, "check elf input record 1", &mut shelf, 0, ACCEPTED)
@@ -22,12 +28,42 @@ fn the_first_record_is_accepted_and_settled(rt: HostRuntime) -> Result<(), Fail>
 #[test]
 fn what_is_made_is_accepted(rt: HostRuntime) -> Result<(), Fail> {
     let mut shelf = shelf_with(&rt, &PROGRAM)?;
-    expect(&rt, "make elf input record 1 1 3", &mut shelf, 0, "made steps=3 shards=3 end=0 code=42 bytes=1295\n")?;
-    expect(&rt, "check elf input record 1", &mut shelf, 0, "accepted steps=3 shards=3 end=0 code=42\n")?;
+    expect(
+        &rt,
+        "make elf input record 1 1 3",
+        &mut shelf,
+        0,
+        "made steps=3 shards=3 end=0 code=42 bytes=1295\n",
+    )?;
+    expect(
+        &rt,
+        "check elf input record 1",
+        &mut shelf,
+        0,
+        "accepted steps=3 shards=3 end=0 code=42\n",
+    )?;
     shelf.put("elf", &of_code(&rt, &RESERVING)?)?;
-    expect(&rt, "make2 elf input record 1 4 4", &mut shelf, 0, "made steps=4 shards=1 end=1 code=0 bytes=939\n")?;
-    expect(&rt, "check elf input record 1", &mut shelf, 0, "accepted steps=4 shards=1 end=1 code=0\n")?;
-    expect(&rt, "settle elf input record", &mut shelf, 0, "settled run steps=4\n")
+    expect(
+        &rt,
+        "make2 elf input record 1 4 4",
+        &mut shelf,
+        0,
+        "made steps=4 shards=1 end=1 code=0 bytes=939\n",
+    )?;
+    expect(
+        &rt,
+        "check elf input record 1",
+        &mut shelf,
+        0,
+        "accepted steps=4 shards=1 end=1 code=0\n",
+    )?;
+    expect(
+        &rt,
+        "settle elf input record",
+        &mut shelf,
+        0,
+        "settled run steps=4\n",
+    )
 }
 
 #[test]
@@ -38,7 +74,10 @@ fn records_that_are_refused(rt: HostRuntime) -> Result<(), Fail> {
     let mut shelf = shelf_with(&rt, &PROGRAM)?;
     let files = [
         (&record[..718], "refused shard=1 row=4 rule=1 Short\n"),
-        (longer.as_slice(), "refused shard=1 row=5 rule=27 Trailing\n"),
+        (
+            longer.as_slice(),
+            "refused shard=1 row=5 rule=27 Trailing\n",
+        ),
         (&record[..0], "refused shard=0 row=0 rule=1 Short\n"),
     ];
     for (bytes, line) in files {
@@ -48,7 +87,13 @@ fn records_that_are_refused(rt: HostRuntime) -> Result<(), Fail> {
     }
     shelf.put("record", &record)?;
     shelf.put("input", &[0])?;
-    expect(&rt, "check elf input record 1", &mut shelf, 1, "refused shard=0 row=0 rule=4 Input\n")
+    expect(
+        &rt,
+        "check elf input record 1",
+        &mut shelf,
+        1,
+        "refused shard=0 row=0 rule=4 Input\n",
+    )
 }
 
 #[test]
@@ -60,7 +105,13 @@ fn a_decided_record_is_read_no_further(rt: HostRuntime) -> Result<(), Fail> {
     shelf.put("record", &record)?;
     // the first read of the record is the fourth in all
     shelf.plan_read(5);
-    expect(&rt, "check elf input record 1", &mut shelf, 1, "refused shard=0 row=0 rule=2 Magic\n")
+    expect(
+        &rt,
+        "check elf input record 1",
+        &mut shelf,
+        1,
+        "refused shard=0 row=0 rule=2 Magic\n",
+    )
 }
 
 #[test]
@@ -69,7 +120,13 @@ fn each_read_that_fails(rt: HostRuntime) -> Result<(), Fail> {
         let mut shelf = shelf_with(&rt, &PROGRAM)?;
         shelf.put("record", &spelled(&rt, &RECORD)?)?;
         shelf.plan_read(nth);
-        expect(&rt, "check elf input record 1", &mut shelf, 5, "fault read\n")?;
+        expect(
+            &rt,
+            "check elf input record 1",
+            &mut shelf,
+            5,
+            "fault read\n",
+        )?;
     }
     Ok(())
 }

@@ -62,12 +62,32 @@ fn faults_of_several_segments(rt: HostRuntime) -> Result<(), Fail> {
 #[test]
 fn runs_and_their_records(rt: HostRuntime) -> Result<(), Fail> {
     let made = [
-        (PROGRAM.as_slice(), "make elf input record 1 1 3", "made steps=3 shards=3 end=0 code=42 bytes=1295\n"),
-        (GREETING.as_slice(), "make elf input record 1 16 100", "made steps=8 shards=1 end=0 code=3 bytes=1231\n"),
+        (
+            PROGRAM.as_slice(),
+            "make elf input record 1 1 3",
+            "made steps=3 shards=3 end=0 code=42 bytes=1295\n",
+        ),
+        (
+            GREETING.as_slice(),
+            "make elf input record 1 16 100",
+            "made steps=8 shards=1 end=0 code=3 bytes=1231\n",
+        ),
         // jalr x1, 2(x0): its target is misaligned
-        (&[0xE7, 0, 0x20, 0], "make elf input record 1 1 1", "made steps=1 shards=1 end=3 code=0 bytes=511\n"),
-        (RESERVING.as_slice(), "make elf input record 1 4 4", "made steps=2 shards=1 end=1 code=0 bytes=594\n"),
-        (RESERVING.as_slice(), "make2 elf input record 1 4 4", "made steps=4 shards=1 end=1 code=0 bytes=939\n"),
+        (
+            &[0xE7, 0, 0x20, 0],
+            "make elf input record 1 1 1",
+            "made steps=1 shards=1 end=3 code=0 bytes=511\n",
+        ),
+        (
+            RESERVING.as_slice(),
+            "make elf input record 1 4 4",
+            "made steps=2 shards=1 end=1 code=0 bytes=594\n",
+        ),
+        (
+            RESERVING.as_slice(),
+            "make2 elf input record 1 4 4",
+            "made steps=4 shards=1 end=1 code=0 bytes=939\n",
+        ),
     ];
     for (code, line, printed) in made {
         let elf = if code.len() == 96 {
@@ -86,14 +106,32 @@ fn runs_and_their_records(rt: HostRuntime) -> Result<(), Fail> {
 #[test]
 fn runs_without_a_record(rt: HostRuntime) -> Result<(), Fail> {
     let mut shelf = shelf_with(&rt, &PROGRAM)?;
-    expect(&rt, "make elf input record 1 3 2", &mut shelf, 4, "fault budget 2\n")?;
+    expect(
+        &rt,
+        "make elf input record 1 3 2",
+        &mut shelf,
+        4,
+        "fault budget 2\n",
+    )?;
     // a loop of 65,537 steps in all
     let counting = [
         0xB7, 0x82, 0, 0, 0x93, 0x82, 0xF2, 0xFF, 0x93, 0x82, 0xF2, 0xFF, 0xE3, 0x9E, 0x02, 0xFE,
     ];
     shelf.put("elf", &of_code(&rt, &counting)?)?;
-    expect(&rt, "make elf input record 1 1 100000", &mut shelf, 8, "fault limit shards\n")?;
-    expect(&rt, "make elf input record 1 1 65536", &mut shelf, 4, "fault budget 65536\n")?;
+    expect(
+        &rt,
+        "make elf input record 1 1 100000",
+        &mut shelf,
+        8,
+        "fault limit shards\n",
+    )?;
+    expect(
+        &rt,
+        "make elf input record 1 1 65536",
+        &mut shelf,
+        4,
+        "fault budget 65536\n",
+    )?;
     assert!(rt; shelf.file("record").is_none());
     Ok(())
 }
@@ -144,8 +182,18 @@ fn faults_of_the_elf_file(rt: HostRuntime) -> Result<(), Fail> {
 #[test]
 fn workers_make_the_same_record(rt: HostRuntime) -> Result<(), Fail> {
     let mut shelf = shelf_with(&rt, &PROGRAM)?;
-    expect(&rt, "make elf input alone 1 1 3", &mut shelf, 0, "made steps=3 shards=3 end=0 code=42 bytes=1295\n")?;
-    for line in ["make elf input team 2 1 3", "make elf input team 4 1 3", "make elf input team 64 1 3"] {
+    expect(
+        &rt,
+        "make elf input alone 1 1 3",
+        &mut shelf,
+        0,
+        "made steps=3 shards=3 end=0 code=42 bytes=1295\n",
+    )?;
+    for line in [
+        "make elf input team 2 1 3",
+        "make elf input team 4 1 3",
+        "make elf input team 64 1 3",
+    ] {
         let words = words_of(&rt, line)?;
         assert!(rt; needs_team(&words), "{line}");
         let mut sink = MemSink::new(rt.alloc());

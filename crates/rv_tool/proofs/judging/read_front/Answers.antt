@@ -32,8 +32,8 @@ returns g c =
     let length_is : c.front_len-length.result ≡ front_length bytes = c.front_len-length.ensures ∙ ap front_length (header ∙ take_all HEADER_BYTES bytes (omega (arith, full))) in (
       unchanged_both read.0 more.0,
       λ told is. first_bytes (file told c.args.name.now) c.read_on-2.new.bytes.items c.front_len-length.result
-      (more.3 told (read.0.files ∙ is) (first_bytes (file told c.args.name.now) bytes HEADER_BYTES (read.3 told is (nothing c.new-front.result.items (file told c.args.name.now) c.new-front.ensures.items)))),
+          (more.3 told (read.0.files ∙ is) (first_bytes (file told c.args.name.now) bytes HEADER_BYTES (read.3 told is (nothing c.new-front.result.items (file told c.args.name.now) c.new-front.ensures.items)))),
       λ not_whole told is. front_ends (file told c.args.name.now) bytes c.read_on-2.new.bytes.items more.2.0 full more.2.1
-      (more.3 told (read.0.files ∙ is) (first_bytes (file told c.args.name.now) bytes HEADER_BYTES (read.3 told is (nothing c.new-front.result.items (file told c.args.name.now) c.new-front.ensures.items))) ∙ ap (λ n. take n (file told c.args.name.now)) length_is)
-      (subst (λ n. length c.read_on-2.new.bytes.items ≤ n) length_is more.1) not_whole,
+          (more.3 told (read.0.files ∙ is) (first_bytes (file told c.args.name.now) bytes HEADER_BYTES (read.3 told is (nothing c.new-front.result.items (file told c.args.name.now) c.new-front.ensures.items))) ∙ ap (λ n. take n (file told c.args.name.now)) length_is)
+          (subst (λ n. length c.read_on-2.new.bytes.items ≤ n) length_is more.1) not_whole,
     )
