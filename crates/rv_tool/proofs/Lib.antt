@@ -7,3 +7,4 @@ mod Judged
 mod Listed
 mod Making
 mod Running
+mod Unread

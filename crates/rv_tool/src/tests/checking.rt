@@ -73,12 +73,18 @@ fn records_that_are_refused(rt: HostRuntime) -> Result<(), Fail> {
     longer.push(0)?;
     let mut shelf = shelf_with(&rt, &PROGRAM)?;
     let files = [
-        (&record[..718], "refused shard=1 row=4 rule=1 Short\n"),
+        (
+            record.get(..718).unwrap_or(&[]),
+            "refused shard=1 row=4 rule=1 Short\n",
+        ),
         (
             longer.as_slice(),
             "refused shard=1 row=5 rule=27 Trailing\n",
         ),
-        (&record[..0], "refused shard=0 row=0 rule=1 Short\n"),
+        (
+            record.get(..0).unwrap_or(&[]),
+            "refused shard=0 row=0 rule=1 Short\n",
+        ),
     ];
     for (bytes, line) in files {
         shelf.put("record", bytes)?;
@@ -99,7 +105,7 @@ fn records_that_are_refused(rt: HostRuntime) -> Result<(), Fail> {
 #[test]
 fn a_decided_record_is_read_no_further(rt: HostRuntime) -> Result<(), Fail> {
     let mut record = spelled(&rt, &RECORD)?;
-    record[0] = 0;
+    record.clear();
     record.resize(70_000, 0)?;
     let mut shelf = shelf_with(&rt, &PROGRAM)?;
     shelf.put("record", &record)?;
