@@ -37,6 +37,7 @@ impl<'c, 'p> Model for Subject<'c, 'p> {
 const STACK_POINTER_CELL: u32 = REGISTER_CELLS + 2;
 
 impl<'c, 'p> Subject<'c, 'p> {
+    /// The file of a program and its input, with the header that it states and its output's bytes.
     pub fn new(program: &'c Program<'p>, header: &Header, output: &'c [u8]) -> Self
         requires { IsWithin header.now }
         ensures { result ≡ record { elf = program.now.elf; input = program.now.input; header = header.now; output = output.now } }
@@ -48,6 +49,7 @@ impl<'c, 'p> Subject<'c, 'p> {
         }
     }
 
+    /// The header that the file states.
     pub fn header(&self) -> &Header
         ensures value { result.now ≡ self.now.header }
         ensures within { IsWithin self.now.header }

@@ -15,6 +15,7 @@ pub(crate) struct Tuples {
 }
 
 impl Tuples {
+    /// No tuples. It takes no memory.
     pub fn new(alloc: Global) -> Tuples
         ensures reads { result.reads.items ≡ [] }
         ensures writes { result.writes.items ≡ [] }
