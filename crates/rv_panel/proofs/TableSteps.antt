@@ -18,8 +18,7 @@ use Rattle.rv_reading.specs.Machine.{Phase, Sums, on_if, event_sums, tuple_sums,
 use Rattle.rv_reading.specs.Machine.Phase.{Shards, Entries}
 use Rattle.rv_reading.specs.Machine.Extent.{WholeFile}
 use Rattle.rv_reading.specs.Parts.{runs}
-use Rattle.rv_reading.proofs.Lemmas.{entries_are_read, extents_are_streams, reads-step}
-use Rattle.rv_panel.proofs.Binding.{bind_assoc, checks_bind, checks_value}
+use Rattle.rv_reading.proofs.Lemmas.{entries_are_read, extents_are_streams, reads-step, bind_assoc, checks_bind, checks_value}
 
 module _ (lanes : Lanes) (elf input : List ℕ) (h : Header) (output : List ℕ) where
   abbrev run : Phase → List ℕ → State Phase
