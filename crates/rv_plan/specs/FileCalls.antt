@@ -10,7 +10,7 @@ use Rattle.rv_plan.specs.Endings.{IsContents, IsTorn, IsWritten, Leaves, ReadFai
 use Rattle.rv_plan.specs.declared.faults.Fault.{Fault}
 use Rattle.rv_plan.specs.declared.faults.Limited.{Limited}
 use Rattle.rv_plan.specs.declared.loading.Loaded.{Loaded}
-use Rattle.rv_plan.specs.declared.faults.Fault.TheVariants.{Budget, Read, Write, Memory, Limit, NotBuilt}
+use Rattle.rv_plan.specs.declared.faults.Fault.TheVariants.{Budget, Read, Write, Memory, Limit}
 use Rattle.rv_plan.specs.declared.told.Told.{Told}
 use Rattle.rv_plan.specs.declared.writing.DueFile.{DueFile}
 

@@ -24,7 +24,7 @@ use Rattle.rv_plan.specs.Plan.{Outcome, Plan, answer, refuses, read_program, wit
 use Rattle.rv_plan.specs.Endings.{Leaves}
 use Rattle.rv_plan.specs.FileCalls.{IsUnchanged, Loads, Performs, PerformsBehind, Stops, StopsBehind, Writes}
 use Rattle.rv_plan.specs.declared.faults.Fault.{Fault}
-use Rattle.rv_plan.specs.declared.faults.Fault.TheVariants.{Words, Elf, Budget, Read, Write, Memory, Limit, NotBuilt}
+use Rattle.rv_plan.specs.declared.faults.Fault.TheVariants.{Words, Elf, Budget, Read, Write, Memory, Limit}
 use Rattle.rv_plan.specs.declared.faults.Limited.TheVariants as limited
 use Rattle.rv_plan.specs.declared.loading.Loaded.{Loaded}
 use Rattle.rv_plan.specs.declared.told.Told.{Told}
@@ -100,7 +100,6 @@ unsurveyed w elf input s s' (Limit what) h k =
           ∙ sym (ap (λ b. if b then refuses (Limit limited.Shards) else made_outcome w needs.steps needs.end (record_file sha_lanes w.version elf input w.shard needs.steps needs.end)) (lt-ltb SHARDS_LIMIT (div_ceil needs.steps w.shard) (subst (λ n. SHARDS_LIMIT < n) needs.count needs.more)))
           ∙ sym (ap (made w elf input) (found_within (image w.version elf) input needs.steps w.budget needs.end needs.ends needs.within)),
     )
-unsurveyed w elf input s s' NotBuilt h k = absurd k
 
 -- ---- the command
 

@@ -1,5 +1,5 @@
 -- What the commands read, write and answer (this project's own).
-use Rattle.std.specs.Prelude.{ℕ, zero, suc, List, [], ◌∷◌, length, Option, Some, None, Result, Ok, Err, nat_lt, if◌then◌else◌}
+use Rattle.std.specs.Prelude.{ℕ, Bool, zero, suc, List, [], ◌∷◌, length, Option, Some, None, Result, Ok, Err, nat_lt, if◌then◌else◌}
 use Rattle.std.specs.Int.{div_ceil}
 use Rattle.rv_base.specs.declared.limits.TheConstants.{RECORD_LIMIT, SHARDS_LIMIT}
 use Rattle.rv_base.specs.declared.record.End.{End}
@@ -16,7 +16,7 @@ use Rattle.rv_rules.specs.Verdict.{judge, verdict}
 use Rattle.rv_host.specs.Files.{Files}
 use Rattle.rv_plan.specs.Plan.{Outcome, Plan, read, answer, refuses, read_within, read_program, outcome_over}
 use Rattle.rv_plan.specs.declared.faults.Limited.TheVariants as limited
-use Rattle.rv_plan.specs.declared.faults.Fault.TheVariants.{Words, Budget, Limit, NotBuilt}
+use Rattle.rv_plan.specs.declared.faults.Fault.TheVariants.{Words, Budget, Limit}
 use Rattle.rv_tool.specs.CommandLine.{MakeWords, CheckWords, SettleWords, RunWords, CommandWords, make, check, settle, run, command}
 use Rattle.rv_tool.specs.Lines.{made_line, ran_line, accepted_line, refused_line, settled_line, collision_line}
 use Rattle.rv_tool.specs.Differing.{least_differing}
@@ -84,16 +84,20 @@ make_plan w elf input = answer (made w elf input (ends_within (image w.version e
 abbrev pub run_plan : RunWords → List ℕ → List ℕ → Plan
 run_plan w elf input = answer (ran w (image w.version elf) input (ends_within (image w.version elf) input w.budget))
 
+-- a record is read as it is judged, or is held whole and has a limit
+abbrev pub read_record : Bool → List ℕ → (List ℕ → Plan) → Plan
+read_record held name next = if held then read_within name RECORD_LIMIT limited.Record next else read name next
+
+-- more than one worker need the whole record
 abbrev pub check_plan : CheckWords → List ℕ → List ℕ → Plan
-check_plan w elf input = read w.file (λ file. answer (told_verdict (verdict sha_lanes elf input file)))
+check_plan w elf input = read_record (nat_lt 1 w.workers) w.file (λ file. answer (told_verdict (verdict sha_lanes elf input file)))
 
 abbrev pub settle_plan : SettleWords → List ℕ → List ℕ → Plan
 settle_plan w elf input = read_within w.file RECORD_LIMIT limited.Record (λ file. answer (settled elf (judge sha_lanes elf input file)))
 
--- check by more than one worker is not built
 abbrev pub plan_of : CommandWords → Plan
 plan_of (make w) = read_program w.elf w.input (make_plan w)
-plan_of (check w) = if nat_lt 1 w.workers then answer (refuses NotBuilt) else read_program w.elf w.input (check_plan w)
+plan_of (check w) = read_program w.elf w.input (check_plan w)
 plan_of (settle w) = read_program w.elf w.input (settle_plan w)
 plan_of (run w) = read_program w.elf w.input (run_plan w)
 

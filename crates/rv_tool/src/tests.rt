@@ -8,11 +8,13 @@ mod programs;
 mod running;
 mod sharding;
 
-use crate::{needs_team, tool_one};
+use crate::{needs_team, tool, tool_one};
 use programs::PROGRAM;
-use rv_host::{MemShelf, MemSink};
+use rv_host::{MemShelf, MemSink, OpenGate};
 use std::process::Abort;
+use std::sync::Wait;
 use std::test::Fail;
+use std::thread::Threads;
 
 /// The line of the record of `PROGRAM`.
 const MADE: &str = "made steps=3 shards=1 end=0 code=42 bytes=719\n";
@@ -47,6 +49,26 @@ fn expect<R: Abort + AllocGlobal>(
     let mut sink = MemSink::new(rt.alloc());
     assert_eq!(rt;
         tool_one(rt.alloc(), &words, shelf, &mut sink),
+        status,
+        "{line}"
+    );
+    assert_eq!(rt; sink.bytes(), printed.as_bytes(), "{line}");
+    Ok(())
+}
+
+/// Runs a command line of several workers, and compares its status and what it prints.
+fn expect_by_team<R: Abort + AllocGlobal + Threads + Wait + Sync>(
+    rt: &R,
+    line: &str,
+    shelf: &mut MemShelf,
+    status: u8,
+    printed: &str,
+) -> Result<(), Fail> {
+    let words = words_of(rt, line)?;
+    assert!(rt; needs_team(&words), "{line}");
+    let mut sink = MemSink::new(rt.alloc());
+    assert_eq!(rt;
+        tool(rt, rt.alloc(), &words, shelf, &mut sink, &OpenGate),
         status,
         "{line}"
     );
