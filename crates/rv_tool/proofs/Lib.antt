@@ -1,4 +1,5 @@
 mod Arguments
+mod CheckOfMade
 mod Checking
 mod Differing
 mod Examples

@@ -1,6 +1,7 @@
 //! Command lines over files in memory: statuses, lines, and what the files hold afterwards.
 
 mod asking;
+mod check_of_made;
 mod checking;
 mod failing;
 mod making;
