@@ -4,6 +4,7 @@ mod asking;
 mod check_of_made;
 mod checking;
 mod failing;
+mod holding;
 mod making;
 mod programs;
 mod running;
