@@ -19,8 +19,12 @@ abbrev pub IsFree : ℕ → Type 0
 IsFree r = (r ≢ 8) × (r ≢ 9) × (r ≢ 11) × (r ≢ 17)
 
 -- a place in the data that is aligned
-abbrev pub IsInData : ℕ → ℕ → ℤ → Type 0
-IsInData width base offset = (base ≡ 8) × ((n : ℕ) × (offset ≡ pos n) × (n < 2048) × (n % width ≡ 0))
+pub record IsInData (width base : ℕ) (offset : ℤ) : Type 0 where
+  pub base_is : base ≡ 8
+  pub place : ℕ
+  pub offset_is : offset ≡ pos place
+  pub within : place < 2048
+  pub aligned : place % width ≡ 0
 
 -- a number into x17 that is no exit, and an address in the data into x11
 pub record NamesCall (i : Instr) : Type 0 where
@@ -46,6 +50,10 @@ IsHarmless i = ⊥
 abbrev pub AreHarmless : List Instr → Type 0
 AreHarmless is = AllByRecursion IsHarmless is
 
+-- a width of loads and stores
+abbrev pub IsWidth : ℕ → Type 0
+IsWidth width = (width ≡ 1) ⊎ ((width ≡ 2) ⊎ (width ≡ 4))
+
 -- ---- what is drawn
 
 free : (r : ℕ) → 18 ≤ r → IsFree r
@@ -59,17 +67,17 @@ draw-below : (n s : ℕ) → 0 < n → (draw n s).0 < n
 unfolding draw
 draw-below n s some = omega arith
 
-lowered : (o width : ℕ) → (width ≡ 1) ⊎ ((width ≡ 2) ⊎ (width ≡ 4)) → (o - o % width) % width ≡ 0
+lowered : (o width : ℕ) → IsWidth width → (o - o % width) % width ≡ 0
 lowered o width (inl e) = subst (λ w. (o - o % w) % w ≡ 0) (sym e) (omega arith)
 lowered o width (inr (inl e)) = subst (λ w. (o - o % w) % w ≡ 0) (sym e) (omega arith)
 lowered o width (inr (inr e)) = subst (λ w. (o - o % w) % w ≡ 0) (sym e) (omega arith)
 
-offset-within : (width s : ℕ) → (width ≡ 1) ⊎ ((width ≡ 2) ⊎ (width ≡ 4)) → IsInData width 8 (offset width s).0
+offset-within : (width s : ℕ) → IsWidth width → IsInData width 8 (offset width s).0
 unfolding offset ◌>>=◌
 offset-within width s h =
     let o = (draw 2048 s).0 in
     let below : o < 2048 = draw-below 2048 s (omega arith) in
-    (refl, (o - o % width, refl, omega arith, lowered o width h))
+    record { base_is = refl; place = o - o % width; offset_is = refl; within = omega arith; aligned = lowered o width h }
 
 -- ---- items
 
@@ -97,20 +105,17 @@ store-widths store.B = refl
 store-widths store.H = refl
 store-widths store.W = refl
 
-abbrev IsWidth : ℕ → Type 0
-IsWidth width = (width ≡ 1) ⊎ ((width ≡ 2) ⊎ (width ≡ 4))
+pub width-of-load : (kind : LoadKind) → IsWidth (load_width kind)
+width-of-load load.B = inl refl
+width-of-load load.H = inr (inl refl)
+width-of-load load.W = inr (inr refl)
+width-of-load load.Bu = inl refl
+width-of-load load.Hu = inr (inl refl)
 
-load-width : (kind : LoadKind) → IsWidth (gen.load_width kind)
-load-width load.B = inl refl
-load-width load.H = inr (inl refl)
-load-width load.W = inr (inr refl)
-load-width load.Bu = inl refl
-load-width load.Hu = inr (inl refl)
-
-store-width : (kind : StoreKind) → IsWidth (gen.store_width kind)
-store-width store.B = inl refl
-store-width store.H = inr (inl refl)
-store-width store.W = inr (inr refl)
+pub width-of-store : (kind : StoreKind) → IsWidth (store_width kind)
+width-of-store store.B = inl refl
+width-of-store store.H = inr (inl refl)
+width-of-store store.W = inr (inr refl)
 
 load-harmless : (s : ℕ) → IsHarmless (load_item s).0
 unfolding load_item ◌>>=◌
@@ -118,14 +123,14 @@ load-harmless s =
     let kind = slice_index_or loads (draw 5 s).0 load.B in
     let t = (draw 5 s).1 in
     let u = (pool t).1 in
-    (pool-free t, subst (λ width. IsInData width 8 (offset (gen.load_width kind) u).0) (load-widths kind) (offset-within (gen.load_width kind) u (load-width kind)))
+    (pool-free t, subst (λ width. IsInData (load_width kind) 8 (offset width u).0) (sym (load-widths kind)) (offset-within (load_width kind) u (width-of-load kind)))
 
 store-harmless : (s : ℕ) → IsHarmless (store_item s).0
 unfolding store_item ◌>>=◌
 store-harmless s =
     let kind = slice_index_or stores (draw 3 s).0 store.B in
     let u = (pool (draw 3 s).1).1 in
-    subst (λ width. IsInData width 8 (offset (gen.store_width kind) u).0) (store-widths kind) (offset-within (gen.store_width kind) u (store-width kind))
+    subst (λ width. IsInData (store_width kind) 8 (offset width u).0) (sym (store-widths kind)) (offset-within (store_width kind) u (width-of-store kind))
 
 branch-harmless : (s : ℕ) → IsHarmless (branch_item s).0
 unfolding branch_item ◌>>=◌

@@ -1,3 +1,5 @@
 pub mod Binds
 pub mod Lengths
 pub mod Harmless
+pub mod Between
+pub mod BodySteps
