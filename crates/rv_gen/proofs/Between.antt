@@ -32,6 +32,11 @@ pub record Fetches (m : Memory) (k : ℕ) (i : Instr) : Type 0 where
   pub below : k < 1000
   pub spells : decode (from_le_bytes w32 (bytes_from m (code_start + 4 * k) 4)) ≡ Some i
 
+-- the words from instruction k on spell these
+abbrev pub CodeAt : Memory → ℕ → List Instr → Type 0
+CodeAt m k [] = Unit {0}
+CodeAt m k (i ∷ is) = Fetches m k i × CodeAt m (suc k) is
+
 -- what a step at instruction k does, without the registers that only the loop needs
 pub fetched : (input : List ℕ) (m : Memory) (k : ℕ) (i : Instr) (s : State) → Fetches m k i → s.pc ≡ code_start + 4 * k
     → ((a : ℕ) → code_start ≤ a → a < data_start → byte s.memory a ≡ byte m a) → step input s ≡ execute input i s
@@ -110,6 +115,29 @@ module _ (m : Memory) (base count k : ℕ) where
     code = b.code;
   }
 
+  -- the base and the count are set
+  pub base-set : (s : State) (a : ℕ) → Between m base count k s → Between m a count k (with_register 8 a s)
+  base-set s a b = record {
+    pc = b.pc;
+    many = as-many s.registers 8 a ∙ b.many;
+    based = get_or-set_same s.registers 7 a 0 (let many = b.many in omega arith);
+    counted = other-register s.registers 8 a 8 (λ e. omega arith) ∙ b.counted;
+    buffer = subst (λ x. (x + 4 ≤ code_start) ⊎ (data_start ≤ x)) (sym (other-register s.registers 8 a 10 (λ e. omega arith))) b.buffer;
+    call = subst (λ x. x ≤ 64) (sym (other-register s.registers 8 a 16 (λ e. omega arith))) b.call;
+    code = b.code;
+  }
+
+  pub count-set : (s : State) (n : ℕ) → Between m base count k s → Between m base n k (with_register 9 n s)
+  count-set s n b = record {
+    pc = b.pc;
+    many = as-many s.registers 9 n ∙ b.many;
+    based = other-register s.registers 9 n 7 (λ e. omega arith) ∙ b.based;
+    counted = get_or-set_same s.registers 8 n 0 (let many = b.many in omega arith);
+    buffer = subst (λ x. (x + 4 ≤ code_start) ⊎ (data_start ≤ x)) (sym (other-register s.registers 9 n 10 (λ e. omega arith))) b.buffer;
+    call = subst (λ x. x ≤ 64) (sym (other-register s.registers 9 n 16 (λ e. omega arith))) b.call;
+    code = b.code;
+  }
+
   -- bytes that are not stored in the code
   pub memory-stays : (s : State) (a : ℕ) (bs : List ℕ) → (a + length bs ≤ code_start) ⊎ (data_start ≤ a) → Between m base count k s → Between m base count k (with_memory (store_bytes s.memory a bs) s)
   memory-stays s a bs outside b = record {
@@ -126,5 +154,8 @@ module _ (m : Memory) (base count k : ℕ) where
   streams-stay s position output b = record { pc = b.pc; many = b.many; based = b.based; counted = b.counted; buffer = b.buffer; call = b.call; code = b.code }
 
   -- at another instruction
+  pub advances : (s : State) → k < 1000 → Between m base count k s → Between m base count (suc k) (record s { pc = (s.pc + 4) % 2 ^ 32 })
+  advances s below b = record { pc = (let pc = b.pc in omega arith); many = b.many; based = b.based; counted = b.counted; buffer = b.buffer; call = b.call; code = b.code }
+
   pub counter-moves : (s : State) (pc j : ℕ) → pc ≡ code_start + 4 * j → Between m base count k s → Between m base count j (record s { pc = pc })
   counter-moves s pc j e b = record { pc = e; many = b.many; based = b.based; counted = b.counted; buffer = b.buffer; call = b.call; code = b.code }

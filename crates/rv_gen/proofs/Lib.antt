@@ -3,3 +3,4 @@ pub mod Lengths
 pub mod Harmless
 pub mod Between
 pub mod BodySteps
+pub mod Ending
