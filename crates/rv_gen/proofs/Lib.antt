@@ -4,3 +4,4 @@ pub mod Harmless
 pub mod Between
 pub mod BodySteps
 pub mod Ending
+pub mod Rounds
