@@ -37,6 +37,9 @@ abbrev pub CodeAt : Memory → ℕ → List Instr → Type 0
 CodeAt m k [] = Unit {0}
 CodeAt m k (i ∷ is) = Fetches m k i × CodeAt m (suc k) is
 
+pub four-same : (a b c d x y z w : ℕ) → a ≡ x → b ≡ y → c ≡ z → d ≡ w → a ∷ b ∷ c ∷ d ∷ [] ≡ x ∷ y ∷ z ∷ w ∷ []
+four-same a b c d x y z w e f g h = ap (λ a. a ∷ b ∷ c ∷ d ∷ []) e ∙ ap (λ b. x ∷ b ∷ c ∷ d ∷ []) f ∙ ap (λ c. x ∷ y ∷ c ∷ d ∷ []) g ∙ ap (λ d. x ∷ y ∷ z ∷ d ∷ []) h
+
 -- what a step at instruction k does, without the registers that only the loop needs
 pub fetched : (input : List ℕ) (m : Memory) (k : ℕ) (i : Instr) (s : State) → Fetches m k i → s.pc ≡ code_start + 4 * k
     → ((a : ℕ) → code_start ≤ a → a < data_start → byte s.memory a ≡ byte m a) → step input s ≡ execute input i s
@@ -46,14 +49,11 @@ fetched input m k i s f pc code =
     let at : ℕ = code_start + 4 * k in
     let words : bytes_from s.memory s.pc 4 ≡ bytes_from m at 4 =
     ap (λ a. bytes_from s.memory a 4) pc
-    ∙ four (byte s.memory at) (byte s.memory (at + 1)) (byte s.memory (at + 1 + 1)) (byte s.memory (at + 1 + 1 + 1)) (byte m at) (byte m (at + 1)) (byte m (at + 1 + 1)) (byte m (at + 1 + 1 + 1))
+    ∙ four-same (byte s.memory at) (byte s.memory (at + 1)) (byte s.memory (at + 1 + 1)) (byte s.memory (at + 1 + 1 + 1)) (byte m at) (byte m (at + 1)) (byte m (at + 1 + 1)) (byte m (at + 1 + 1 + 1))
     (code at (omega arith) (omega arith)) (code (at + 1) (omega arith) (omega arith)) (code (at + 1 + 1) (omega arith) (omega arith)) (code (at + 1 + 1 + 1) (omega arith) (omega arith)) in
     let spelt : decode (fetch_word s) ≡ Some i = ap (λ bs. decode (from_le_bytes w32 bs)) words ∙ f.spells in
     let atomic : Option AnyInstr = cond (s.version == 2) (option_map rv32a (decode_atomic (fetch_word s))) None in
     ap (λ o. execute_if input (option_or (option_map rv32im o) atomic) s) spelt
-  where
-    four : (a b c d x y z w : ℕ) → a ≡ x → b ≡ y → c ≡ z → d ≡ w → a ∷ b ∷ c ∷ d ∷ [] ≡ x ∷ y ∷ z ∷ w ∷ []
-    four a b c d x y z w e f g h = ap (λ a. a ∷ b ∷ c ∷ d ∷ []) e ∙ ap (λ b. x ∷ b ∷ c ∷ d ∷ []) f ∙ ap (λ c. x ∷ y ∷ c ∷ d ∷ []) g ∙ ap (λ d. x ∷ y ∷ z ∷ d ∷ []) h
 
 pub step-is : (input : List ℕ) (m : Memory) (base count k : ℕ) (i : Instr) (s : State) → Fetches m k i → Between m base count k s → step input s ≡ execute input i s
 step-is input m base count k i s f b = fetched input m k i s f b.pc b.code

@@ -5,3 +5,5 @@ pub mod Between
 pub mod BodySteps
 pub mod Ending
 pub mod Rounds
+pub mod Image
+pub mod Success
