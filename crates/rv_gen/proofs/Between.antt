@@ -1,12 +1,12 @@
 -- What holds between the instructions of a generated program, and what keeps it.
-use Rattle.std.proofs.Common.{◌≡◌, ◌≢◌, ◌⊎◌, inl, inr, ℕ, zero, suc, ◌+◌, ◌-◌, ◌*◌, ◌%◌, ◌^◌, ◌<◌, ◌≤◌, Bool, true, false, cond, ◌==◌, List, [], ◌∷◌, ◌++◌, length, set, slice_index, Option, Some, None, option_map, refl, sym, ◌∙◌, ap, subst, arith, length-set, get_or-set_same, get_or-set_other}
+use Rattle.std.proofs.Common.{◌≡◌, ◌≢◌, ◌⊎◌, inl, inr, ℕ, suc, ◌+◌, ◌-◌, ◌*◌, ◌%◌, ◌^◌, ◌<◌, ◌≤◌, Bool, true, false, cond, ◌==◌, List, [], ◌∷◌, length, set, slice_index, Option, Some, None, option_map, refl, sym, ◌∙◌, ap, subst, arith, length-set, get_or-set_same, get_or-set_other}
 use Rattle.std.specs.Int.{w32, from_le_bytes}
 use Rattle.std.specs.Option.{option_or}
 use Rattle.std.proofs.lemmas.Bool.{eqb-false}
 use Rattle.rv_base.specs.declared.instr.Instr.{Instr}
 use Rattle.rv_spec.specs.Words.{Memory, byte, bytes_from, store_bytes}
 use Rattle.rv_spec.specs.Decode.{AnyInstr, rv32im, rv32a, decode, decode_atomic, decode_any}
-use Rattle.rv_spec.specs.Step.{State, Transition, Next, Ends, register, with_register, with_memory, advance, execute, execute_if, fetch_word, step}
+use Rattle.rv_spec.specs.Step.{State, with_register, with_memory, execute, execute_if, fetch_word, step}
 use Rattle.rv_rules.proofs.Lemmas.{byte-outside}
 use Rattle.rv_gen.specs.Programs.{code_start}
 use Rattle.rv_gen.proofs.Harmless.{IsFree}

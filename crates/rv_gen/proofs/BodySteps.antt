@@ -1,16 +1,14 @@
 -- A step of a harmless instruction keeps what holds between instructions, goes on, and goes to the next instruction or skips one.
-use Rattle.std.proofs.Common.{◌≡◌, ◌≢◌, ◌⊎◌, inl, inr, ℕ, suc, ◌+◌, ◌-◌, ◌*◌, ◌%◌, ◌^◌, ◌<◌, ◌≤◌, ℤ, pos, min, Bool, true, false, cond, ◌||◌, ◌==◌, List, ◌++◌, length, take, drop, slice_index, refl, sym, ◌∙◌, ap, subst, arith}
+use Rattle.std.proofs.Common.{◌≡◌, ◌⊎◌, inl, inr, ℕ, suc, ◌+◌, ◌-◌, ◌%◌, ◌^◌, ◌<◌, ◌≤◌, ℤ, pos, min, Bool, true, false, cond, ◌||◌, ◌==◌, List, ◌++◌, length, take, drop, sym, ◌∙◌, ap, subst, arith}
 use Rattle.std.specs.Int.{w32, cast_unsigned, to_le_bytes}
 use Rattle.std.proofs.lemmas.List.{length-take}
 use Rattle.std.proofs.lemmas.Bool.{eq-eqb, ne_eqb, or_from}
-use Rattle.rv_base.specs.declared.instr.Op.{Op}
-use Rattle.rv_base.specs.declared.instr.Op.TheVariants as op
 use Rattle.rv_base.specs.declared.instr.Instr.{Instr}
 use Rattle.rv_base.specs.declared.instr.Instr.TheVariants as instr
 use Rattle.rv_spec.specs.Words.{Memory, bytes_from, store_bytes, plus}
 use Rattle.rv_spec.specs.Arithmetic.{compute, taken}
 use Rattle.rv_spec.specs.Step.{State, Transition, Next, Ends, register, with_register, with_memory, advance, jump, exits, stops, load_width, store_width, load_value, store_value, within_word, return_in_a0, read_call, write_call, environment_call, execute, step}
-use Rattle.rv_gen.specs.Programs.{li, code_start}
+use Rattle.rv_gen.specs.Programs.{code_start}
 use Rattle.rv_gen.proofs.Harmless.{IsFree, IsInData, IsWidth, NamesCall, NamesBuffer, IsHarmless, width-of-load, width-of-store}
 use Rattle.rv_gen.proofs.Between.{data_start, Between, Fetches, step-is, free-stays, number-stays, buffer-stays, memory-stays, streams-stay, counter-moves}
 

@@ -1,7 +1,6 @@
 -- The items of the body are harmless: they change no register that the loop or a call needs, store to the data alone, and skip one word at most.
-use Rattle.std.proofs.Common.{◌≡◌, ◌≢◌, ◌⊎◌, inl, inr, ℕ, zero, suc, ◌+◌, ◌-◌, ◌*◌, ◌%◌, ◌^◌, ◌<◌, ◌≤◌, ℤ, pos, Bool, true, false, ◌==◌, nat_lt, if◌then◌else◌, List, [], ◌∷◌, ◌++◌, slice_index_or, refl, sym, subst, arith}
+use Rattle.std.proofs.Common.{◌≡◌, ◌≢◌, ◌⊎◌, inl, inr, ℕ, zero, suc, ◌+◌, ◌-◌, ◌%◌, ◌<◌, ◌≤◌, ℤ, pos, Bool, true, false, ◌==◌, nat_lt, if◌then◌else◌, List, [], ◌∷◌, ◌++◌, slice_index_or, refl, sym, subst, arith}
 use Rattle.std.specs.List.{AllByRecursion}
-use Rattle.rv_base.specs.declared.instr.Op.{Op}
 use Rattle.rv_base.specs.declared.instr.Op.TheVariants as op
 use Rattle.rv_base.specs.declared.instr.LoadKind.{LoadKind}
 use Rattle.rv_base.specs.declared.instr.LoadKind.TheVariants as load
@@ -144,10 +143,16 @@ call-harmless s =
     let below : o < 2 = draw-below 2 s (omega arith) in
     let within : (draw 2048 t).0 < 2048 = draw-below 2048 t (omega arith) in (
       inr (inl (record { number = 63 + o; small = omega arith; is = refl })),
-      (inl ((λ e. omega arith), (λ e. omega arith), (λ e. omega arith), (λ e. omega arith)),
-      (inr (inr (record { place = (draw 2048 t).0; within = within; is = refl })),
-      (inl ((λ e. omega arith), (λ e. omega arith), (λ e. omega arith), (λ e. omega arith)),
-      (tt, tt)))),
+      (
+        inl ((λ e. omega arith), (λ e. omega arith), (λ e. omega arith), (λ e. omega arith)),
+        (
+          inr (inr (record { place = (draw 2048 t).0; within = within; is = refl })),
+          (
+            inl ((λ e. omega arith), (λ e. omega arith), (λ e. omega arith), (λ e. omega arith)),
+            (tt, tt),
+          ),
+        ),
+      ),
     )
 
 choice-harmless : (b : Bool) (x y : Draw Instr) (s : ℕ) → IsHarmless (x s).0 → IsHarmless (y s).0 → IsHarmless ((if b then x else y) s).0
@@ -184,7 +189,6 @@ unfolding items item ◌>>=◌
 items-harmless zero s = nothing
   where
     nothing : AreHarmless []
-
     nothing = tt
 items-harmless (suc n) s =
     let k = (draw 16 s).0 in
@@ -201,6 +205,5 @@ unfolding filled ◌>>=◌
 filled-harmless zero r s h = nothing
   where
     nothing : AreHarmless []
-
     nothing = tt
 filled-harmless (suc n) r s h = harmless-append (word r s).0 (filled n (r + 1) (word r s).1).0 (word-harmless r s h) (filled-harmless n (r + 1) (word r s).1 (omega arith))

@@ -1,20 +1,20 @@
 -- The executable of a program has no fault, and its image has the words of the code from the first address of the code on.
-use Rattle.std.proofs.Common.{◌≡◌, ℕ, zero, suc, ◌+◌, ◌-◌, ◌*◌, ◌%◌, ◌^◌, ◌<◌, ◌≤◌, Bool, true, false, cond, ◌&&◌, nat_le, nat_lt, List, [], ◌∷◌, ◌++◌, length, drop, map, slice_index, slice_index_or, Option, Some, None, refl, sym, ◌∙◌, ap, subst, arith, length-append}
+use Rattle.std.proofs.Common.{◌≡◌, ℕ, suc, ◌+◌, ◌-◌, ◌*◌, ◌^◌, ◌<◌, ◌≤◌, true, cond, ◌&&◌, nat_le, nat_lt, List, [], ◌∷◌, length, drop, map, slice_index, slice_index_or, Some, None, refl, ◌∙◌, ap, subst, arith, length-append}
 use Rattle.std.specs.List.{AllByRecursion}
 use Rattle.std.specs.Int.{w32, from_le_bytes, to_le_bytes}
 use Rattle.std.proofs.lemmas.Bool.{lt-ltb, le-leb}
 use Rattle.std.proofs.lemmas.Nat.{from_le_bytes-to_le_bytes_4}
 use Rattle.rv_base.specs.declared.instr.Instr.{Instr}
 use Rattle.rv_spec.specs.Words.{Memory, Block, block_byte, byte, bytes_from}
-use Rattle.rv_spec.specs.Elf.{Image, first_fault, image}
+use Rattle.rv_spec.specs.Elf.{first_fault, image}
 use Rattle.rv_spec.specs.Decode.{decode}
 use Rattle.rv_rules.proofs.Lemmas.{both_true}
 use Rattle.rv_elf.specs.ElfFile.{PartBytes}
-use Rattle.rv_elf.specs.Written.{words_bytes, image_of_parts}
+use Rattle.rv_elf.specs.Written.{words_bytes}
 use Rattle.rv_elf.proofs.WrittenLaws.{IsWritable, bodies_of, size, no_fault, image_is}
 use Rattle.rv_gen.specs.Programs.{code_start, executable_of}
 use Rattle.rv_gen.proofs.Lengths.{length-words}
-use Rattle.rv_gen.proofs.Between.{Fetches, CodeAt, four-same}
+use Rattle.rv_gen.proofs.Between.{CodeAt, four-same}
 
 -- the bytes from an address on
 abbrev Holds : Memory → ℕ → List ℕ → Type 0

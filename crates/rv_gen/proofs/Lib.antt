@@ -7,3 +7,4 @@ pub mod Ending
 pub mod Rounds
 pub mod Image
 pub mod Success
+pub mod Lemmas

@@ -1,18 +1,18 @@
 -- The instructions around the body: what begins the program, a round of the loop, and the exit.
-use Rattle.std.proofs.Common.{◌≡◌, ◌≢◌, ℕ, zero, suc, ◌+◌, ◌-◌, ◌*◌, ◌%◌, ◌^◌, ◌<◌, ◌≤◌, ℤ, pos, negsuc, neg_ℤ, Bool, true, false, cond, not, ◌||◌, ◌==◌, List, [], ◌∷◌, ◌++◌, length, set, slice_index, refl, sym, ◌∙◌, ap, subst, arith, length-append, length-set, get_or-set_same, get_or-set_other}
+use Rattle.std.proofs.Common.{◌≡◌, ℕ, zero, suc, ◌+◌, ◌-◌, ◌*◌, ◌%◌, ◌^◌, ◌<◌, ◌≤◌, ℤ, pos, neg_ℤ, cond, not, ◌||◌, ◌==◌, List, [], ◌∷◌, ◌++◌, length, set, refl, ◌∙◌, ap, subst, arith, length-append, length-set, get_or-set_same, get_or-set_other}
 use Rattle.std.specs.Int.{w32, cast_unsigned}
-use Rattle.std.proofs.lemmas.Bool.{eq-eqb, ne_eqb, or_right}
+use Rattle.std.proofs.lemmas.Bool.{eq-eqb, ne_eqb}
 use Rattle.rv_base.specs.declared.instr.Op.TheVariants as op
 use Rattle.rv_base.specs.declared.instr.Cond.TheVariants as condition
 use Rattle.rv_base.specs.declared.instr.Instr.{Instr}
 use Rattle.rv_base.specs.declared.instr.Instr.TheVariants as instr
 use Rattle.rv_spec.specs.Words.{Memory, byte, plus}
 use Rattle.rv_spec.specs.Arithmetic.{compute, taken}
-use Rattle.rv_spec.specs.Step.{State, Transition, Next, Ends, register, with_register, advance, jump, exits, stops, read_call, write_call, return_in_a0, environment_call, execute, step}
+use Rattle.rv_spec.specs.Step.{State, Next, Ends, register, with_register, advance, jump, exits, stops, read_call, write_call, return_in_a0, environment_call, execute, step}
 use Rattle.rv_gen.specs.Programs.{li, code_start, data_base, front, back}
 use Rattle.rv_gen.specs.Runs.{success}
 use Rattle.rv_gen.proofs.Harmless.{AreHarmless, harmless-append}
-use Rattle.rv_gen.proofs.Between.{data_start, Between, Fetches, CodeAt, fetched, step-is, free-stays, base-set, count-set, advances, counter-moves}
+use Rattle.rv_gen.proofs.Between.{data_start, Between, Fetches, CodeAt, fetched, step-is, base-set, count-set, advances, counter-moves}
 use Rattle.rv_gen.proofs.Ending.{EndsWithin, ends-now, step-before, within-more, row-ends}
 
 -- the state at the next instruction

@@ -1,16 +1,17 @@
 -- Each generated program ends with success.
-use Rattle.std.proofs.Common.{◌≡◌, inl, ℕ, zero, suc, ◌+◌, ◌*◌, ◌/◌, ◌%◌, ◌^◌, ◌<◌, ◌≤◌, List, [], ◌∷◌, ◌++◌, length, map, Some, refl, sym, ◌∙◌, ap, subst, arith, length-append}
+use Rattle.std.proofs.Common.{◌≡◌, inl, ℕ, zero, suc, ◌+◌, ◌*◌, ◌/◌, ◌≤◌, List, [], ◌∷◌, ◌++◌, length, map, Some, refl, sym, ◌∙◌, ap, subst, arith, length-append}
 use Rattle.std.specs.Int.{IsInRange}
 use Rattle.rv_base.specs.declared.instr.Instr.{Instr}
 use Rattle.rv_spec.specs.Decode.{decode}
 use Rattle.rv_spec.specs.Elf.{Image, image}
-use Rattle.rv_spec.specs.Step.{State, start}
-use Rattle.rv_spec.specs.Run.{run, EndsIn}
+use Rattle.rv_spec.specs.Step.{start}
+use Rattle.rv_spec.specs.Run.{run}
+use Rattle.rv_elf.specs.Written.{words_bytes}
 use Rattle.rv_gen.specs.Draws.{draw, bytes, ◌>>=◌}
 use Rattle.rv_gen.specs.Programs.{code_start, front, back, filled, items, code, drawn, program, SpellCode, executable_of, IsProgram}
-use Rattle.rv_gen.specs.Runs.{success, Succeeds, most_steps, ProgramsSucceed}
+use Rattle.rv_gen.specs.Runs.{Succeeds, ProgramsSucceed}
 use Rattle.rv_gen.proofs.Lengths.{length-map, items-few, filled-length}
-use Rattle.rv_gen.proofs.Harmless.{AreHarmless, filled-harmless, items-harmless}
+use Rattle.rv_gen.proofs.Harmless.{filled-harmless, items-harmless}
 use Rattle.rv_gen.proofs.Between.{Between, CodeAt}
 use Rattle.rv_gen.proofs.Ending.{EndsWithin, ends-in}
 use Rattle.rv_gen.proofs.Rounds.{program-ends}
@@ -76,8 +77,15 @@ module _ (number size : ℕ) where
         steps = suc ending.steps;
         ends = ends-in (image 1 (executable_of words)) input ending.steps ending.ends;
         few = omega arith;
+        most = omega arith;
       }
 
 pub programs-succeed : ProgramsSucceed
-programs-succeed number size file input range is =
-    (subst (λ f. Succeeds size f input) (sym is.elf) (succeeds number size is.code input range is.spells is.input), omega arith)
+programs-succeed number size file input range is = subst (λ f. Succeeds size f input) (sym is.elf) (succeeds number size is.code input range is.spells is.input)
+
+-- the image of a program's executable begins with the first of its words, and has nothing else
+pub program-image : (number size : ℕ) (file input : List ℕ) (is : IsProgram number size file input)
+    → image 1 file ≡ record { version = 1; entry = code_start; blocks = record { address = code_start; bytes = words_bytes is.code } ∷ [] }
+program-image number size file input is =
+    let few = few-code number size is.code is.spells in
+    ap (image 1) is.elf ∙ executable-image is.code (omega arith)

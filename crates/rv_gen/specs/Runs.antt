@@ -1,4 +1,4 @@
--- What holds of the run of a generated program on its input (this project's own).
+-- How the run of a generated program on its input ends (this project's own).
 use Rattle.std.specs.Prelude.{◌≡◌, ℕ, ◌+◌, ◌*◌, ◌/◌, ◌≤◌, List, length, None}
 use Rattle.std.specs.Int.{IsInRange}
 use Rattle.rv_base.specs.declared.limits.TheConstants.{ELF_LIMIT}
@@ -12,7 +12,7 @@ use Rattle.rv_gen.specs.Programs.{IsProgram}
 abbrev pub success : End
 success = record { kind = EXIT; code = 0 }
 
--- The executable has no fault and is within its limit, the input has 256 bytes, and the run exits with code 0 in few steps, the exit counted. A round of the loop takes 163 steps at most, and 42 of the size are a round.
+-- The executable has no fault and is within its limit, the input has 256 bytes, and the run ends with success in few steps, the ending one counted: 163 at most in each round, of which there is one for 42 of the size, and 25 before and behind the rounds.
 pub record Succeeds (size : ℕ) (file input : List ℕ) : Type 0 where
   pub faultless : first_fault file ≡ None
   pub file_within : length file ≤ ELF_LIMIT
@@ -20,13 +20,8 @@ pub record Succeeds (size : ℕ) (file input : List ℕ) : Type 0 where
   pub steps : ℕ
   pub ends : EndsIn (image 1 file) input steps success
   pub few : steps ≤ 163 * (size / 42) + 25
+  pub most : steps ≤ 326025
 
--- the greatest number of steps of a program of a size up to 84,000
-abbrev pub most_steps : ℕ
-most_steps = 326025
-
--- Each generated program ends with success, in at most so many steps.
+-- each generated program of a size from 42 to 84,000 succeeds on its input
 abbrev pub ProgramsSucceed : Type 0
-ProgramsSucceed =
-    (number size : ℕ) (file input : List ℕ) → IsInRange 42 84000 size → IsProgram number size file input
-    → Succeeds size file input × (163 * (size / 42) + 25 ≤ most_steps)
+ProgramsSucceed = (number size : ℕ) (file input : List ℕ) → IsInRange 42 84000 size → IsProgram number size file input → Succeeds size file input

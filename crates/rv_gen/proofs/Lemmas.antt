@@ -1,0 +1,6 @@
+-- The lemmas about generated programs that other crates cite.
+
+-- each generated program ends with success
+pub use Rattle.rv_gen.proofs.Success.{programs-succeed}
+-- what its executable loads
+pub use Rattle.rv_gen.proofs.Success.{program-image}
