@@ -1,1 +1,4 @@
-
+pub mod Spelling
+pub mod Ends
+pub mod ShardLengths
+pub mod Recorded

@@ -16,7 +16,6 @@ use rv_base::{Header, NoMemory};
 use rv_book::{Book, Task};
 use rv_file::{table_bytes, write_header};
 use rv_point::Points;
-use rv_point::laws::pieces;
 use rv_program::Program;
 use rv_team::run_one;
 use std::alloc::{AllocError, Global};
@@ -43,7 +42,6 @@ pub fn record_of<T: Task>(
     ensures file { IfOk result (λ r. r.file.items ≡ recorded program.now points.now) }
     ensures accesses { IfOk result (λ r. r.accesses ≡ accesses_of program.now points.now) }
 {
-    pieces();
     let book = run_one(alloc, task, points.shards())?;
     let mut file = Vec::new(alloc);
     file.extend_from_slice(&front_of(program, points))?;

@@ -3,8 +3,10 @@
 ghost use Rattle.std.specs.Prelude.{◌≡◌, IfOk, Some, take};
 ghost use Rattle.std.specs.Int.{IsInRange, div_ceil};
 ghost use Rattle.sha2.specs.Sha512.{sha512};
+ghost use Rattle.rv_base.specs.declared.record.Verdict.TheVariants.{Accept};
 ghost use Rattle.rv_spec.specs.Digest.{sha_lanes};
 ghost use Rattle.rv_spec.specs.Conclusion.{IsRecord};
+ghost use Rattle.rv_rules.specs.Verdict.{verdict};
 ghost use Rattle.rv_trial.specs.Trials.{Accepted, shard_rows, trial as trial_of};
 
 use crate::generated::{generated, opened};
@@ -48,7 +50,8 @@ pub fn trial(alloc: Global, number: u32, size: u32) -> Result<Trial, NoMemory>
 /// The steps and the shards of the verdict on the record of a run.
 fn accepted(program: &Program<'_>, points: &Points<'_>, file: &[u8]) -> (u64, u32)
     requires { IsRecord sha_lanes 1 program.now.elf program.now.input shard_rows points.now.steps points.now.end file.now }
-    ensures { result ≡ (points.now.steps, div_ceil points.now.steps shard_rows) }
+    ensures told { result ≡ (points.now.steps, div_ceil points.now.steps shard_rows) }
+    ensures verdict { verdict sha_lanes program.now.elf program.now.input file.now ≡ Accept points.now.steps (div_ceil points.now.steps shard_rows) points.now.end }
 {
     match judge(program, file, ShaLanes) {
         Verdict::Accept { steps, shards, .. } => (steps, shards),
