@@ -2,3 +2,4 @@ pub mod Spelling
 pub mod Ends
 pub mod ShardLengths
 pub mod Recorded
+pub mod Told

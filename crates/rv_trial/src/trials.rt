@@ -5,8 +5,9 @@ ghost use Rattle.std.specs.Int.{IsInRange, div_ceil};
 ghost use Rattle.sha2.specs.Sha512.{sha512};
 ghost use Rattle.rv_base.specs.declared.record.Verdict.TheVariants.{Accept};
 ghost use Rattle.rv_spec.specs.Digest.{sha_lanes};
-ghost use Rattle.rv_spec.specs.Conclusion.{IsRecord};
+ghost use Rattle.rv_spec.specs.Conclusion.{HasRecord};
 ghost use Rattle.rv_rules.specs.Verdict.{verdict};
+ghost use Rattle.rv_trial.specs.Recording.{IsSurveyed, recorded};
 ghost use Rattle.rv_trial.specs.Trials.{Accepted, shard_rows, trial as trial_of};
 
 use crate::generated::{generated, opened};
@@ -15,6 +16,8 @@ use crate::summary::Trial;
 use crate::surveyed::surveyed;
 use rv_base::{NoMemory, Verdict};
 use rv_digest::ShaLanes;
+use rv_elf::laws::image_is_program;
+use rv_isa::laws::ranges;
 use rv_judge::judge;
 use rv_point::Points;
 use rv_program::Program;
@@ -47,12 +50,25 @@ pub fn trial(alloc: Global, number: u32, size: u32) -> Result<Trial, NoMemory>
     })
 }
 
+/// The run of a program that was surveyed has a record within its limits.
+fn has_record(program: &Program<'_>, points: &Points<'_>)
+    requires { IsSurveyed program.now points.now }
+    ensures { HasRecord 1 program.now.elf program.now.input shard_rows points.now.steps points.now.end }
+{
+    image_is_program();
+    ranges();
+    let _image = program.image();
+    let _input = program.input();
+}
+
 /// The steps and the shards of the verdict on the record of a run.
 fn accepted(program: &Program<'_>, points: &Points<'_>, file: &[u8]) -> (u64, u32)
-    requires { IsRecord sha_lanes 1 program.now.elf program.now.input shard_rows points.now.steps points.now.end file.now }
+    requires survey { IsSurveyed program.now points.now }
+    requires file { file.now ≡ recorded program.now points.now }
     ensures told { result ≡ (points.now.steps, div_ceil points.now.steps shard_rows) }
     ensures verdict { verdict sha_lanes program.now.elf program.now.input file.now ≡ Accept points.now.steps (div_ceil points.now.steps shard_rows) points.now.end }
 {
+    has_record(program, points);
     match judge(program, file, ShaLanes) {
         Verdict::Accept { steps, shards, .. } => (steps, shards),
         Verdict::Refuse(_) => unreachable!(),
