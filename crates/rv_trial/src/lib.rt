@@ -5,9 +5,9 @@ mod generated;
 mod recording;
 mod summary;
 mod surveyed;
-mod trials;
 #[cfg(test)]
 mod tests;
+mod trials;
 
 pub use summary::Trial;
 pub use trials::trial;

@@ -87,7 +87,11 @@ fn table_of(alloc: Global, points: &Points<'_>) -> Result<Vec<u8>, NoMemory>
 }
 
 /// Appends the pieces of all shards, in order.
-fn push_pieces<T: Task>(file: &mut Vec<u8>, book: &Book<'_, T>, shards: u32) -> Result<(), AllocError>
+fn push_pieces<T: Task>(
+    file: &mut Vec<u8>,
+    book: &Book<'_, T>,
+    shards: u32,
+) -> Result<(), AllocError>
     requires { (i : ℕ) → i < shards → (p : PieceOf) × (piece_at book.now i ≡ Some p) }
     ensures { (piece : ℕ → PieceOf) → ((i : ℕ) → i < shards → piece_at book.now i ≡ Some (piece i))
         → OnOk result (file.new.items ≡ file.old.items ++ flat_map (λ i. (piece i).bytes) (range_with_len 0 shards)) }
