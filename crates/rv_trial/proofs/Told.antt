@@ -1,10 +1,10 @@
 -- What is told of a run and its record is what is due.
-use Rattle.std.proofs.Common.{◌≡◌, ℕ, ◌≤◌, List, length, take, Some, None, option_map, refl, sym, ap, subst, ◌∙◌, arith}
+use Rattle.std.proofs.Common.{◌≡◌, ℕ, List, length, take, Some, option_map, sym, ap, subst, ◌∙◌, arith}
 use Rattle.std.specs.Int.{div_ceil}
 use Rattle.sha2.specs.Sha512.{sha512}
 use Rattle.rv_base.specs.declared.record.End.{End}
 use Rattle.rv_base.specs.declared.record.Verdict.TheVariants.{Accept}
-use Rattle.rv_spec.specs.Elf.{Image, image}
+use Rattle.rv_spec.specs.Elf.{image}
 use Rattle.rv_spec.specs.Run.{run, EndsIn}
 use Rattle.rv_spec.specs.Digest.{sha_lanes}
 use Rattle.rv_spec.specs.Record.{record_file}

@@ -1,4 +1,4 @@
-use Rattle.std.proofs.Common.{◌≡◌, sym, ◌∙◌}
+use Rattle.std.proofs.Common.{sym, ◌∙◌}
 use Rattle.rv_trial.specs.Trials.{shard_rows}
 use Rattle.rv_trial.proofs.Ends.{not_both, told_same}
 use Rattle.rv_trial.proofs.trials.accepted.Goals as goal

@@ -1,4 +1,4 @@
-use Rattle.std.proofs.Common.{◌≡◌, ◌≤◌, length, arith}
+use Rattle.std.proofs.Common.{arith}
 use Rattle.rv_spec.specs.Elf.{image}
 use Rattle.rv_trial.proofs.trials.has_record.Goals as goal
 

@@ -1,9 +1,6 @@
-use Rattle.std.proofs.Common.{◌≡◌, ℕ, List, length, refl, ap, sym, subst, ◌∙◌}
-use Rattle.std.specs.Int.{div_ceil}
+use Rattle.std.proofs.Common.{◌≡◌, ℕ, length, refl, ap, sym, subst, ◌∙◌}
 use Rattle.rv_program.specs.Files.{Files}
 use Rattle.rv_gen.specs.Runs.{Succeeds}
-use Rattle.rv_trial.specs.Trials.{elf_of, input_of, shard_rows}
-use Rattle.rv_trial.specs.Recording.{recorded}
 use Rattle.rv_trial.proofs.Told.{accepted_is, files_of, in_budget, told_is}
 use Rattle.rv_trial.proofs.trials.trial.Goals as goal
 
