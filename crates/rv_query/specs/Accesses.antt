@@ -19,16 +19,16 @@ numbered k (r ∷ rs) = map (λ a. record { step = k; access = a }) r.accesses +
 
 -- those to a cell with a time before that of a step
 abbrev pub accesses_before : List Numbered → ℕ → ℕ → List Numbered
-accesses_before as cell step = filter (λ a. a.access.cell == cell && nat_lt (own_time a) (time_of step 0)) as
+accesses_before xs cell step = filter (λ a. a.access.cell == cell && nat_lt (own_time a) (time_of step 0)) xs
 
 -- the one with the greatest time, if there is one; of several, the last
 unfoldable pub latest : List Numbered → Option Numbered
-latest as = find (λ a. own_time a == greatest (map own_time as)) (reverse as)
+latest xs = find (λ a. own_time a == greatest (map own_time xs)) (reverse xs)
 
 -- the last access to a cell before a step
 abbrev pub last_access : List Numbered → ℕ → ℕ → Option Numbered
-last_access as cell step = latest (accesses_before as cell step)
+last_access xs cell step = latest (accesses_before xs cell step)
 
 -- the last that left another value than it found
 abbrev pub last_change : List Numbered → ℕ → ℕ → Option Numbered
-last_change as cell step = latest (filter (λ a. not (a.access.new == a.access.old)) (accesses_before as cell step))
+last_change xs cell step = latest (filter (λ a. not (a.access.new == a.access.old)) (accesses_before xs cell step))

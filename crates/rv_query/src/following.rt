@@ -1,12 +1,12 @@
 //! One pass over the rows of a file, which follows consecutive cells up to a step.
 
-ghost use Rattle.std.specs.Prelude.{◌≡◌, ◌+◌, ◌<◌, ◌≤◌, ◌^◌, ℕ, List, ◌∷◌, [], ◌++◌, length, take, drop, map};
+ghost use Rattle.std.specs.Prelude.{◌≡◌, ◌+◌, ◌*◌, ◌<◌, ◌≤◌, ◌^◌, ℕ, List, ◌∷◌, [], ◌++◌, length, take, drop, map, slice_get, Some};
 ghost use Rattle.std.specs.List.{flat_map, AllByRecursion};
 ghost use Rattle.rv_spec.specs.Trace.{Row};
-ghost use Rattle.rv_spec.specs.Record.{all_rows, row_bytes};
+ghost use Rattle.rv_spec.specs.Record.{Shard, all_rows, row_bytes, shard_rows};
 ghost use Rattle.rv_spec.specs.Grammar.{PartsFit, RowFits};
 ghost use Rattle.rv_query.specs.Accesses.{Numbered, numbered};
-ghost use Rattle.rv_query.specs.Following.{BeginWithRow, GoPast};
+ghost use Rattle.rv_query.specs.Following.{BeginWithRow, BehindRows, GoPast};
 
 use crate::trail::Trail;
 use rv_base::layout::HEAD_BYTES;
@@ -79,7 +79,14 @@ fn follow_shard<'a>(
     parsed: &Parsed<'a>,
     i: u32,
     rows: u32,
-) -> &'a [u8] {
+) -> &'a [u8]
+    requires asked { until < 2 ^ 32 }
+    requires fit { PartsFit parsed.now }
+    requires there { i < length parsed.now.shards }
+    requires most { rows ≤ shard_rows parsed.now.header.size parsed.now.header.steps i }
+    ensures { (s : Shard) → slice_get parsed.now.shards i ≡ Some s
+        → BehindRows s.rows rows result.now × GoPast first until trails.old trails.new (numbered (i * parsed.now.header.size) (take rows s.rows)) }
+{
     let Some(shard) = parsed.shard(i) else {
         unreachable!();
     };

@@ -1,7 +1,7 @@
 //! Questions on a record file.
 
-ghost use Rattle.std.specs.Prelude.{◌≡◌, ◌+◌, ◌<◌, ◌≤◌, ℕ, List, [], ◌++◌, IsTrue, slice_get};
-ghost use Rattle.std.specs.Option.{option_map, unwrap_or};
+ghost use Rattle.std.specs.Prelude.{◌≡◌, ◌+◌, ℕ, List, [], ◌++◌, ◌==◌, if◌then◌else◌, IsTrue, map};
+ghost use Rattle.std.specs.List.{range_with_len};
 ghost use Rattle.rv_spec.specs.Cells.{is_cell, initial_value};
 ghost use Rattle.rv_spec.specs.Elf.{image};
 ghost use Rattle.rv_spec.specs.Trace.{Row};
@@ -37,8 +37,10 @@ pub struct CellSeen {
     pub changed: Option<u64>,
 }
 
-/// The trails of the registers before the first step.
-fn register_trails(program: &Program<'_>) -> [Trail; 32] {
+/// The trails of the registers before the first step, with one for the cell that x0 would have.
+fn register_trails(program: &Program<'_>) -> [Trail; 32]
+    ensures { (version until : ℕ) → AreTrails (initial_value (image version program.now.elf)) [] REGISTER_CELLS until result }
+{
     let mut trails = [Trail::of(0); REGISTERS];
     for r in 0..REGISTERS {
         trails[r] = Trail::of(program.initial_value(REGISTER_CELLS + r as u32));
@@ -47,7 +49,9 @@ fn register_trails(program: &Program<'_>) -> [Trail; 32] {
 }
 
 /// The values of the registers, with 0 for x0.
-fn register_values(trails: &[Trail; 32]) -> [u32; 32] {
+fn register_values(trails: &[Trail; 32]) -> [u32; 32]
+    ensures { (seen : ℕ → Trail) → trails.now ≡ map seen (range_with_len 0 32) → result ≡ map (λ r. if r == 0 then 0 else (seen r).value) (range_with_len 0 32) }
+{
     let mut values = [0; REGISTERS];
     for r in 1..REGISTERS {
         values[r] = trails[r].value;

@@ -1,6 +1,6 @@
 //! What the accesses so far show of a cell.
 
-ghost use Rattle.std.specs.Prelude.{◌≡◌, ◌<◌, ◌^◌, ℕ, List, ◌∷◌, [], ◌++◌};
+ghost use Rattle.std.specs.Prelude.{◌≡◌, ◌<◌, ◌≤◌, ◌^◌, ℕ, List, ◌∷◌, [], ◌++◌, Some};
 ghost use Rattle.rv_base.specs.LittleEndian.{time_of as time_is};
 ghost use Rattle.rv_query.specs.Accesses.{Numbered};
 ghost use Rattle.rv_query.specs.Following.{trail};
@@ -31,7 +31,10 @@ impl Trail {
     }
 
     /// With an access that left a value at a time, unless that of the last is later.
-    fn with_last(self, value: u32, time: u64) -> Trail {
+    fn with_last(self, value: u32, time: u64) -> Trail
+        ensures kept { time < self.time → result ≡ self }
+        ensures new { self.time ≤ time → result ≡ record self { value = value; time = time } }
+    {
         if time < self.time {
             return self;
         }
@@ -43,7 +46,10 @@ impl Trail {
     }
 
     /// With a change by a step at a time, unless that of the last is later.
-    fn with_change(self, step: u64, time: u64) -> Trail {
+    fn with_change(self, step: u64, time: u64) -> Trail
+        ensures kept { time < self.changed_time → result ≡ self }
+        ensures new { self.changed_time ≤ time → result ≡ record self { changed = Some step; changed_time = time } }
+    {
         if time < self.changed_time {
             return self;
         }
@@ -57,8 +63,8 @@ impl Trail {
     /// Past an access of a step.
     pub fn past(self, step: u64, access: &Access) -> Trail
         requires { step < 2 ^ 32 }
-        ensures { (initial : ℕ) (as : List Numbered) (until : ℕ) → time_is step access.now.slot < time_is until 0 → self ≡ trail initial as access.now.cell until
-            → result ≡ trail initial (as ++ record { step = step; access = access.now } ∷ []) access.now.cell until }
+        ensures { (initial : ℕ) (before : List Numbered) (until : ℕ) → time_is step access.now.slot < time_is until 0 → self ≡ trail initial before access.now.cell until
+            → result ≡ trail initial (before ++ record { step = step; access = access.now } ∷ []) access.now.cell until }
     {
         let time = time_of(step, access.slot);
         let trail = self.with_last(access.new, time);
