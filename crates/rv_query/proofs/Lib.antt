@@ -1,2 +1,4 @@
 pub mod Latest
 pub mod Trails
+pub mod Rows
+pub mod Cuts

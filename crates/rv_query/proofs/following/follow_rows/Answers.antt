@@ -1,24 +1,38 @@
-use Rattle.std.proofs.Common.{rules, ◌≡◌, ◌+◌, ◌*◌, ◌<◌, ◌≤◌, ◌^◌, ℕ, List, ◌∷◌, [], ◌++◌, length, take, drop, map, slice_get, Some, ◌-◌, ◌/◌, ◌%◌, Bool, true, false, nat_eq, nat_lt, slice_index_or, slice_set, bit_and, bit_or, Fits, w8, w32, w64, Bor, MutBor}
-use Rattle.std.specs.List.{flat_map, AllByRecursion}
-use Rattle.rv_spec.specs.Trace.{Row}
-use Rattle.rv_spec.specs.Record.{Shard, all_rows, row_bytes, shard_rows}
-use Rattle.rv_spec.specs.Grammar.{PartsFit, RowFits}
-use Rattle.rv_query.specs.Accesses.{Numbered, numbered}
-use Rattle.rv_query.specs.Following.{BeginWithRow, BehindRows, GoPast}
+use Rattle.std.proofs.Common.{ap, subst, sym, ◌+◌, ◌++◌, ◌≡◌, ◌∙◌, List, map, take, drop, arith}
+use Rattle.std.specs.List.{flat_map}
+use Rattle.rv_base.specs.declared.record.Access.{Access}
+use Rattle.rv_spec.specs.Record.{row_bytes}
+use Rattle.rv_query.specs.Accesses.{numbered}
+use Rattle.rv_query.specs.Following.{GoPast}
+use Rattle.rv_spec.specs.Record.{row_length}
+use Rattle.rv_row.specs.RowReading.{row_view}
+use Rattle.rv_text.proofs.RowSteps.{take_rest, not_row, row_there}
+use Rattle.rv_query.proofs.Trails.{past-none}
+use Rattle.rv_query.proofs.Rows.{past-row}
 use Rattle.rv_query.proofs.following.follow_rows.Goals as goal
 
--- src/following.rt:58:5
 pub loop-row-init : goal.loop-row-init
-loop-row-init c = ?
+loop-row-init c rs tail fit most is = (is, past-none c.args.first c.args.until c.args.trails.now)
 
--- src/following.rt:60:13
 pub returns-in_default : goal.returns-in_default
-returns-in_default c = ?
+returns-in_default c rs tail fit most is =
+    let known = c.loop-row.invariant rs tail fit most is in
+    let there = row_there c.loop-row.row rs tail c.loop-row.rest.now fit (omega (arith, most, c.loop-row-test.true)) known.0 in
+    absurd (not_row c.read_row.result there.0 (row_length there.0) c.in_default.not-Row (c.read_row.ensures.only there.0 there.1 there.2 there.3))
 
--- src/following.rt:58:5
 pub loop-row-preserved : goal.loop-row-preserved
-loop-row-preserved c = ?
+loop-row-preserved c rs tail fit most is =
+    let known = c.loop-row.invariant rs tail fit most is in
+    let stepped =
+    past-row c.args.first c.args.until c.args.step c.loop-row.row c.in-Row.length rs tail c.loop-row.rest.now (row_view c.in-Row.read) c.args.trails.now c.loop-row.trails c.pass_row.new.trails
+    fit (omega (arith, most, c.loop-row-test.true)) known.0 known.1 (λ x more fits begins. c.in-Row.ensures.only x more fits begins)
+    (subst (λ (l : List Access). GoPast c.args.first c.args.until c.loop-row.trails c.pass_row.new.trails (map (λ a. record { step = c.args.step + c.loop-row.row; access = a }) l)) c.as_slice.ensures.value c.pass_row.ensures) in
+    (take_rest c.in-Row.length c.loop-row.rest.now ∙ stepped.0, stepped.1)
 
--- src/following.rt:44:1
 pub returns : goal.returns
-returns c = ?
+returns c rs tail fit most is =
+    let end : c.loop-row.row ≡ c.args.rows = omega (arith, c.loop-row.auto.row-end, c.loop-row-test.false) in
+    let known = c.loop-row.invariant rs tail fit most is in (
+      known.0 ∙ ap (λ k. flat_map row_bytes (drop k rs) ++ tail) end,
+      subst (λ k. GoPast c.args.first c.args.until c.args.trails.now c.loop-row.trails (numbered c.args.step (take k rs))) end known.1,
+    )
