@@ -2,3 +2,8 @@ pub mod Latest
 pub mod Trails
 pub mod Rows
 pub mod Cuts
+pub mod Early
+pub mod Uses
+pub mod TraceRows
+pub mod OwnTimes
+pub mod OfRun

@@ -26,10 +26,10 @@ pub untouched : (initial c s : ℕ) → trail initial [] c s ≡ record { value 
 unfolding trail latest
 untouched initial c s = refl
 
-counted : (c s : ℕ) (a : Numbered) → a.access.cell ≡ c → own_time a < time_of s 0 → counts c s a ≡ true
+pub counted : (c s : ℕ) (a : Numbered) → a.access.cell ≡ c → own_time a < time_of s 0 → counts c s a ≡ true
 counted c s a cell early = ap (λ b. b && nat_lt (own_time a) (time_of s 0)) (eq-eqb a.access.cell c cell) ∙ lt-ltb (own_time a) (time_of s 0) early
 
-uncounted : (c s : ℕ) (a : Numbered) → (a.access.cell ≡ c → own_time a < time_of s 0 → ⊥) → counts c s a ≡ false
+pub uncounted : (c s : ℕ) (a : Numbered) → (a.access.cell ≡ c → own_time a < time_of s 0 → ⊥) → counts c s a ≡ false
 uncounted c s a not_so = go (a.access.cell == c) (nat_lt (own_time a) (time_of s 0)) refl refl
   where
     go : (p q : Bool) → (a.access.cell == c) ≡ p → nat_lt (own_time a) (time_of s 0) ≡ q → (p && q) ≡ false

@@ -5,7 +5,7 @@ ghost use Rattle.std.specs.List.{range_with_len};
 ghost use Rattle.rv_spec.specs.Cells.{is_cell, initial_value};
 ghost use Rattle.rv_spec.specs.Elf.{image};
 ghost use Rattle.rv_spec.specs.Trace.{Row};
-ghost use Rattle.rv_spec.specs.Record.{row_bytes};
+ghost use Rattle.rv_spec.specs.Record.{Parts, row_bytes};
 ghost use Rattle.rv_spec.specs.Grammar.{PartsFit, RowFits};
 ghost use Rattle.rv_query.specs.Following.{AreTrails};
 ghost use Rattle.rv_query.specs.Questions.{cell_answer, state_answer};
@@ -35,6 +35,16 @@ pub struct CellSeen {
     pub value: u32,
     pub time: u64,
     pub changed: Option<u64>,
+}
+
+/// The law of the answers, of a program that was opened and its input.
+fn answers_are_of_run(program: &Program<'_>)
+    ensures states { (p : Parts) (step : ℕ) → StateFollows program.now.elf program.now.input p step }
+    ensures cells { (p : Parts) (cell step : ℕ) → CellFollows program.now.elf program.now.input p cell step }
+{
+    let _image = program.image();
+    let _input = program.input();
+    answers_follow();
 }
 
 /// The trails of the registers before the first step, with one for the cell that x0 would have.
@@ -75,6 +85,7 @@ pub fn state_at(program: &Program<'_>, parsed: &Parsed<'_>, step: u64) -> Option
     ensures exact { result ≡ state_answer program.now.elf parsed.now step }
     ensures of_run { StateFollows program.now.elf program.now.input parsed.now step }
 {
+    answers_are_of_run(program);
     if step >= parsed.header().steps {
         return None;
     }
@@ -94,6 +105,7 @@ pub fn cell_at(program: &Program<'_>, parsed: &Parsed<'_>, cell: u32, step: u64)
     ensures exact { result ≡ cell_answer program.now.elf parsed.now cell step }
     ensures of_run { CellFollows program.now.elf program.now.input parsed.now cell step }
 {
+    answers_are_of_run(program);
     if step >= parsed.header().steps {
         return None;
     }
