@@ -7,3 +7,5 @@ pub mod Uses
 pub mod TraceRows
 pub mod OwnTimes
 pub mod OfRun
+pub mod Filled
+pub mod Answered

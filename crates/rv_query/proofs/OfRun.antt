@@ -27,7 +27,7 @@ use Rattle.rv_sound.specs.Accepted.{ReadsAccepted}
 use Rattle.rv_sound.proofs.RecordAccepted.{record-spells}
 use Rattle.rv_query.specs.Accesses.{Numbered, own_time, numbered, accesses_before, latest, last_access}
 use Rattle.rv_query.specs.Questions.{cell_seen, register_seen, state_seen, image_of, cell_answer, state_answer, snapshot}
-use Rattle.rv_query.specs.OfRun.{Accepts, cell_of_run, StateFollows, CellFollows}
+use Rattle.rv_query.specs.OfRun.{Accepts, cell_of_run, StateIsOfRun, CellIsOfRun}
 use Rattle.rv_query.specs.Following.{trail}
 use Rattle.rv_query.specs.declared.questions.CellSeen.{CellSeen}
 use Rattle.rv_query.specs.declared.questions.Snapshot.{Snapshot}

@@ -95,7 +95,7 @@ trail-kept initial xs c s a not_so = ap (λ l. shown initial (latest l) (latest 
 
 -- ---- consecutive cells
 
-no_trail : Trail
+abbrev pub no_trail : Trail
 no_trail = record { value = 0; time = 0; changed = None; changed_time = 0 }
 
 module _ (initial : ℕ → ℕ) (xs : List Numbered) (first s : ℕ) where

@@ -8,7 +8,7 @@ mod questions;
 mod tests;
 mod trail;
 
-pub use laws::answers_follow;
+pub use laws::answers_are_of_run;
 pub use questions::{CellSeen, Snapshot, cell_at, state_at};
 pub use rv_file::Parsed;
 pub use rv_program::Program;

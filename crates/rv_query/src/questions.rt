@@ -1,6 +1,6 @@
 //! Questions on a record file.
 
-ghost use Rattle.std.specs.Prelude.{◌≡◌, ◌+◌, ℕ, List, [], ◌++◌, ◌==◌, if◌then◌else◌, IsTrue, map};
+ghost use Rattle.std.specs.Prelude.{◌≡◌, ◌+◌, ℕ, List, [], ◌++◌, ◌==◌, if◌then◌else◌, IsTrue, length, map};
 ghost use Rattle.std.specs.List.{range_with_len};
 ghost use Rattle.rv_spec.specs.Cells.{is_cell, initial_value};
 ghost use Rattle.rv_spec.specs.Elf.{image};
@@ -9,10 +9,10 @@ ghost use Rattle.rv_spec.specs.Record.{Parts, row_bytes};
 ghost use Rattle.rv_spec.specs.Grammar.{PartsFit, RowFits};
 ghost use Rattle.rv_query.specs.Following.{AreTrails};
 ghost use Rattle.rv_query.specs.Questions.{cell_answer, state_answer};
-ghost use Rattle.rv_query.specs.OfRun.{CellFollows, StateFollows};
+ghost use Rattle.rv_query.specs.OfRun.{CellIsOfRun, StateIsOfRun};
 
 use crate::following::follow;
-use crate::laws::answers_follow;
+use crate::laws::answers_are_of_run;
 use crate::trail::Trail;
 use rv_base::cells::REGISTER_CELLS;
 use rv_file::Parsed;
@@ -38,18 +38,19 @@ pub struct CellSeen {
 }
 
 /// The law of the answers, of a program that was opened and its input.
-fn answers_are_of_run(program: &Program<'_>)
-    ensures states { (p : Parts) (step : ℕ) → StateFollows program.now.elf program.now.input p step }
-    ensures cells { (p : Parts) (cell step : ℕ) → CellFollows program.now.elf program.now.input p cell step }
+fn of_run(program: &Program<'_>)
+    ensures states { (p : Parts) (step : ℕ) → StateIsOfRun program.now.elf program.now.input p step (state_answer program.now.elf p step) }
+    ensures cells { (p : Parts) (cell step : ℕ) → CellIsOfRun program.now.elf program.now.input p cell step (cell_answer program.now.elf p cell step) }
 {
     let _image = program.image();
     let _input = program.input();
-    answers_follow();
+    answers_are_of_run();
 }
 
 /// The trails of the registers before the first step, with one for the cell that x0 would have.
 fn register_trails(program: &Program<'_>) -> [Trail; 32]
-    ensures { (version until : ℕ) → AreTrails (initial_value (image version program.now.elf)) [] REGISTER_CELLS until result }
+    ensures count { length result ≡ 32 }
+    ensures first { (version until : ℕ) → AreTrails (initial_value (image version program.now.elf)) [] REGISTER_CELLS until result }
 {
     let mut trails = [Trail::of(0); REGISTERS];
     for r in 0..REGISTERS {
@@ -83,9 +84,9 @@ fn pc_of(bytes: &[u8]) -> u32
 pub fn state_at(program: &Program<'_>, parsed: &Parsed<'_>, step: u64) -> Option<Snapshot>
     requires { PartsFit parsed.now }
     ensures exact { result ≡ state_answer program.now.elf parsed.now step }
-    ensures of_run { StateFollows program.now.elf program.now.input parsed.now step }
+    ensures of_run { StateIsOfRun program.now.elf program.now.input parsed.now step result }
 {
-    answers_are_of_run(program);
+    of_run(program);
     if step >= parsed.header().steps {
         return None;
     }
@@ -103,9 +104,9 @@ pub fn cell_at(program: &Program<'_>, parsed: &Parsed<'_>, cell: u32, step: u64)
     requires fit { PartsFit parsed.now }
     requires cell { IsTrue (is_cell parsed.now.header.version cell) }
     ensures exact { result ≡ cell_answer program.now.elf parsed.now cell step }
-    ensures of_run { CellFollows program.now.elf program.now.input parsed.now cell step }
+    ensures of_run { CellIsOfRun program.now.elf program.now.input parsed.now cell step result }
 {
-    answers_are_of_run(program);
+    of_run(program);
     if step >= parsed.header().steps {
         return None;
     }

@@ -1,6 +1,6 @@
 use Rattle.std.proofs.Common.{inl, inr}
 use Rattle.rv_query.proofs.OfRun.{rows-of-run, state-follows, cell-follows}
-use Rattle.rv_query.proofs.laws.answers_follow.Goals as goal
+use Rattle.rv_query.proofs.laws.answers_are_of_run.Goals as goal
 
 pub returns-clause-states : goal.returns-clause-states
 returns-clause-states c elf input p step faultless bytes input_bytes lanes file a =
