@@ -1,5 +1,5 @@
 -- From the trails behind the rows before a step to the answers.
-use Rattle.std.proofs.Common.{◌≡◌, ℕ, ◌+◌, ◌<◌, cond, ◌==◌, List, [], ◌∷◌, length, map, take, get_or, Option, Some, None, option_map, unwrap_or, slice_get, refl, sym, ap, subst, ◌∙◌, add-zero, arith}
+use Rattle.std.proofs.Common.{◌≡◌, ℕ, ◌+◌, ◌<◌, cond, ◌==◌, List, [], ◌∷◌, length, map, take, get_or, Some, None, option_map, unwrap_or, slice_get, sym, ap, ◌∙◌, add-zero, arith}
 use Rattle.std.specs.List.{range_with_len}
 use Rattle.std.proofs.lemmas.Bool.{lt-ltb}
 use Rattle.rv_spec.specs.Elf.{Image}
@@ -8,7 +8,7 @@ use Rattle.rv_spec.specs.Trace.{Row}
 use Rattle.rv_spec.specs.Record.{Parts, all_rows}
 use Rattle.rv_query.specs.Accesses.{Numbered, numbered}
 use Rattle.rv_query.specs.Questions.{cell_seen, register_seen, state_seen, image_of, cell_answer, state_answer}
-use Rattle.rv_query.specs.Following.{trail, AreTrails, GoPast, BeginWithRow}
+use Rattle.rv_query.specs.Following.{trail, AreTrails, GoPast}
 use Rattle.rv_query.specs.declared.questions.CellSeen.{CellSeen}
 use Rattle.rv_query.specs.declared.questions.Snapshot.{Snapshot}
 use Rattle.rv_query.specs.declared.trail.Trail.{Trail}

@@ -1,29 +1,46 @@
 -- The shard and the row of a step.
-use Rattle.std.proofs.Common.{◌≡◌, ℕ, zero, suc, ◌+◌, ◌-◌, ◌*◌, ◌/◌, ◌%◌, ◌<◌, ◌≤◌, min, List, [], ◌∷◌, ◌++◌, length, take, drop, Some, option_map, slice_get, refl, sym, ap, subst, ◌∙◌, append_assoc, append-nil, add-zero, arith}
+use Rattle.std.proofs.Common.{◌≡◌, ℕ, zero, suc, ◌+◌, ◌*◌, ◌/◌, ◌%◌, ◌<◌, ◌≤◌, List, [], ◌∷◌, ◌++◌, length, take, drop, Some, option_map, slice_get, refl, sym, ap, subst, ◌∙◌, append_assoc, append-nil, arith}
 use Rattle.std.specs.List.{flat_map, AllByRecursion}
 use Rattle.std.proofs.Math.Nat.{lt_of_mul-lt-mul_right, mul-le-mul_right, mod-lt}
 use Rattle.std.proofs.lemmas.Nat.{div-add-mod'}
-use Rattle.std.proofs.lemmas.List.{drop_at, drop-drop, take-append-drop, take-append-le, take_all, length-append}
+use Rattle.std.proofs.lemmas.List.{drop_at, take-append-drop, take-append-le, take_all, length-append}
 use Rattle.std.proofs.Math.Seq.{take-append-add}
 use Rattle.std.proofs.lemmas.Grind.{flat_map-append}
-use Rattle.rv_base.specs.declared.record.Header.{Header}
+use Rattle.rv_base.specs.declared.record.ShardHead.{ShardHead}
 use Rattle.rv_spec.specs.Trace.{Row}
 use Rattle.rv_spec.specs.Digest.{set_digest_bytes}
-use Rattle.rv_spec.specs.Record.{Shard, Parts, all_rows, row_bytes, shard_bytes, shard_rows}
-use Rattle.rv_spec.specs.Grammar.{RowFits, PartsFit, ShardFits, ShardsFit}
-use Rattle.rv_text.proofs.Shards.{ShardAt, rows_in, rows_exact, shard_at, sized, head_apart}
-use Rattle.rv_query.specs.Accesses.{Numbered, numbered}
+use Rattle.rv_spec.specs.Record.{Shard, Parts, all_rows, head_bytes, row_bytes, shard_bytes, shard_rows}
+use Rattle.rv_spec.specs.Grammar.{RowFits, PartsFit}
+use Rattle.rv_text.proofs.Shards.{ShardAt, rows_in, rows_exact, shard_at, sized}
+use Rattle.rv_query.specs.Accesses.{numbered}
 use Rattle.rv_query.specs.Following.{GoPast, BehindRows, BeginWithRow}
 use Rattle.rv_query.specs.declared.trail.Trail.{Trail}
 use Rattle.rv_query.proofs.Trails.{past-both}
-use Rattle.rv_query.proofs.Rows.{numbered-append, place-found, next-begins}
+use Rattle.rv_query.proofs.Rows.{numbered-append, next-begins}
 
 -- ---- a shard
 
+length-head : (h : ShardHead) → length (head_bytes h) ≡ 32
+unfolding head_bytes
+length-head h = refl
+
+-- the rows lie behind the head
 pub behind_head : (s : Shard) (bytes : List ℕ) → bytes ≡ shard_bytes s → (32 ≤ length bytes) × (drop 32 bytes ≡ flat_map row_bytes s.rows ++ (set_digest_bytes s.reads ++ set_digest_bytes s.writes))
-behind_head s bytes is =
-    let apart = head_apart s in
-    (subst (λ (l : List ℕ). 32 ≤ length l) (sym is) apart.0, ap (λ (l : List ℕ). drop 32 l) is ∙ apart.1)
+unfolding shard_bytes
+behind_head s bytes e =
+    let rest = flat_map row_bytes s.rows ++ (set_digest_bytes s.reads ++ set_digest_bytes s.writes) in
+    let apart : shard_bytes s ≡ head_bytes s.head ++ rest = simp append_assoc in
+    let is : bytes ≡ head_bytes s.head ++ rest = e ∙ apart in
+    (omega (arith, ap length is, length-append (head_bytes s.head) rest, length-head s.head), ap (λ (l : List ℕ). drop 32 l) is ∙ drop_at (head_bytes s.head) rest 32 (length-head s.head))
+
+-- the element by which a longer front ends is the one at its place
+found-at : (ss : List Shard) (j : ℕ) (s : Shard) → j < length ss → take (j + 1) ss ≡ take j ss ++ s ∷ [] → slice_get ss j ≡ Some s
+found-at [] j s lt e = absurd (omega (arith, lt))
+found-at (x ∷ xs) zero s lt e = let same : x ≡ s = cc in ap (λ y. Some y) same
+found-at (x ∷ xs) (suc j) s lt e =
+    let next : suc j + 1 ≡ suc (j + 1) = omega arith in
+    let all : x ∷ take (j + 1) xs ≡ x ∷ (take j xs ++ s ∷ []) = sym (ap (λ n. take n (x ∷ xs)) next) ∙ e in
+    found-at xs j s (omega (arith, lt)) (ap (drop 1) all)
 
 -- What is known of the shard at a place.
 pub record IsShardAt (p : Parts) (i : ℕ) (t : Shard) : Type 0 where
@@ -38,8 +55,8 @@ shard-is p fit i lt =
     let place : 0 + i ≡ i = omega arith in (
       at.0,
       record {
-        same = λ s found. (let e : Some at.0 ≡ Some s = sym at.1.found ∙ found in cc);
-        shown = λ bytes e. (let f : Some bytes ≡ Some (shard_bytes at.0) = e ∙ ap (option_map shard_bytes) at.1.found in cc);
+        same = λ s found. (let e : Some at.0 ≡ Some s = sym (found-at p.shards i at.0 lt at.1.front) ∙ found in cc);
+        shown = λ bytes e. (let f : Some bytes ≡ Some (shard_bytes at.0) = e ∙ ap (option_map shard_bytes) (found-at p.shards i at.0 lt at.1.front) in cc);
         fit = at.1.fits.each;
         count = at.1.fits.count ∙ at.1.fits.rows ∙ ap (shard_rows p.header.size p.header.steps) place;
       },
@@ -77,7 +94,7 @@ module _ (p : Parts) (fit : PartsFit p) where
       let count : length t.rows ≡ size = omega (arith, at.1.fits.count, at.1.fits.rows, whole, spread, none) in
       let all : take size t.rows ≡ t.rows = take_all size t.rows (omega (arith, count)) in
       subst (GoPast first s ts vs) (sym (ap (numbered 0) (front-more k t at.1.front) ∙ numbered-more k t.rows lt))
-      (past-both first s ts us vs (numbered 0 (front k)) (numbered (k * size) t.rows) before (subst (λ l. GoPast first s us vs (numbered (k * size) l)) all (here t at.1.found)))
+      (past-both first s ts us vs (numbered 0 (front k)) (numbered (k * size) t.rows) before (subst (λ l. GoPast first s us vs (numbered (k * size) l)) all (here t (found-at p.shards k t lt at.1.front))))
 
   module _ (step : ℕ) (within : step < p.header.steps) where
     abbrev k : ℕ
@@ -108,6 +125,9 @@ module _ (p : Parts) (fit : PartsFit p) where
 
     abbrev at : (t : Shard) × ShardAt p.header p.shards 0 k t
     at = shard_at p.header 0 p.shards k shard-there fit.shards
+
+    found : slice_get p.shards k ≡ Some at.0
+    found = found-at p.shards k at.0 shard-there at.1.front
 
     pub rows-there : rem < shard_rows size p.header.steps k
     rows-there = omega (arith, rem-less, parted, within)
@@ -140,12 +160,12 @@ module _ (p : Parts) (fit : PartsFit p) where
         → GoPast first s ts vs (numbered 0 (take step (all_rows p)))
     past-last first s ts us vs before here =
         subst (GoPast first s ts vs) (sym (ap (numbered 0) rows-until ∙ numbered-more k (take rem (at.0).rows) shard-there))
-        (past-both first s ts us vs (numbered 0 (front k)) (numbered (k * size) (take rem (at.0).rows)) before (here at.0 at.1.found))
+        (past-both first s ts us vs (numbered 0 (front k)) (numbered (k * size) (take rem (at.0).rows)) before (here at.0 found))
 
     -- the row of the step
     pub row-begins : (bytes : List ℕ) → ((t : Shard) → slice_get p.shards k ≡ Some t → BehindRows t.rows rem bytes) → BeginWithRow (all_rows p) step bytes
     row-begins bytes behind =
-        let b = next-begins (at.0).rows rem bytes count (behind at.0 at.1.found) in
+        let b = next-begins (at.0).rows rem bytes count (behind at.0 found) in
         record {
           row = b.row;
           rest = b.rest;

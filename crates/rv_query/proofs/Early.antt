@@ -1,13 +1,13 @@
 -- Accesses before a step are of rows before it.
-use Rattle.std.proofs.Common.{◌≡◌, ℕ, ◌+◌, ◌<◌, ◌≤◌, Bool, false, cond, ◌==◌, ◌&&◌, nat_lt, List, [], ◌∷◌, ◌++◌, length, map, take, drop, filter, not, refl, sym, ap, ◌∙◌, inl, inr, append-nil, arith}
+use Rattle.std.proofs.Common.{◌≡◌, ℕ, ◌+◌, ◌≤◌, cond, List, [], ◌∷◌, ◌++◌, length, map, take, drop, filter, refl, sym, ap, ◌∙◌, inl, inr, append-nil, arith}
 use Rattle.std.proofs.lemmas.List.{take-append-drop, take_all, length-take-le}
 use Rattle.std.proofs.lemmas.List.Elements.{filter-append}
 use Rattle.std.proofs.lemmas.Bool.{cases_lt}
 use Rattle.rv_base.specs.declared.record.Access.{Access}
 use Rattle.rv_spec.specs.Elf.{Image}
-use Rattle.rv_spec.specs.Cells.{initial_value, time_of}
+use Rattle.rv_spec.specs.Cells.{initial_value}
 use Rattle.rv_spec.specs.Trace.{Row}
-use Rattle.rv_query.specs.Accesses.{Numbered, own_time, numbered, accesses_before, latest}
+use Rattle.rv_query.specs.Accesses.{Numbered, numbered, accesses_before, latest}
 use Rattle.rv_query.specs.Questions.{cell_seen}
 use Rattle.rv_query.specs.Following.{trail}
 use Rattle.rv_query.specs.declared.questions.CellSeen.{CellSeen}

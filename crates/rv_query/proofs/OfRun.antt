@@ -1,18 +1,17 @@
 -- The answers on the record of a run are those of the run, and an accepted file is such a record or a collision.
-use Rattle.std.proofs.Common.{◌≡◌, ◌⊎◌, ℕ, zero, suc, ◌+◌, ◌-◌, ◌<◌, ◌≤◌, Bool, true, false, cond, ◌==◌, ◌&&◌, nat_lt, List, [], ◌∷◌, length, map, take, Option, Some, None, Result, Ok, Err, option_map, unwrap_or, slice_get, slice_index, refl, sym, ap, subst, ◌∙◌, inl, inr, arith, filter}
+use Rattle.std.proofs.Common.{◌≡◌, ◌⊎◌, ℕ, zero, suc, ◌+◌, ◌-◌, ◌<◌, ◌≤◌, Bool, true, false, cond, ◌==◌, ◌&&◌, nat_lt, List, [], ◌∷◌, map, Option, Some, None, Result, Ok, Err, option_map, unwrap_or, slice_get, slice_index, refl, sym, ap, subst, ◌∙◌, inl, inr, arith, filter}
 use Rattle.std.specs.List.{range_with_len}
 use Rattle.std.proofs.lemmas.List.FromFn.{take-map-range_with_len}
-use Rattle.std.proofs.lemmas.Bool.{eqb-true, eqb-false, eq-eqb, ne_eqb, ltb-true, lt-ltb, le-ltb}
+use Rattle.std.proofs.lemmas.Bool.{eqb-true, ne_eqb, lt-ltb, le-ltb}
 use Rattle.rv_base.specs.declared.record.End.{End}
 use Rattle.rv_base.specs.declared.record.Refusal.{Refusal}
-use Rattle.rv_base.specs.declared.record.Tuple.{Tuple}
 use Rattle.rv_base.specs.declared.record.Verdict.TheVariants.{Accept}
 use Rattle.rv_spec.specs.Words.{AreBytes, word}
-use Rattle.rv_spec.specs.Elf.{Image, image, first_fault}
+use Rattle.rv_spec.specs.Elf.{Image, first_fault}
 use Rattle.rv_spec.specs.Step.{State, register}
 use Rattle.rv_spec.specs.Run.{run}
 use Rattle.rv_spec.specs.Cells.{value, initial_value, register_cell, time_of}
-use Rattle.rv_spec.specs.Trace.{Row, greatest, history, last_use, left_at, row, rows}
+use Rattle.rv_spec.specs.Trace.{Row, greatest, last_use, left_at, row, rows}
 use Rattle.rv_spec.specs.Digest.{Lanes}
 use Rattle.rv_spec.specs.Record.{Parts, all_rows, record_parts}
 use Rattle.rv_spec.specs.Grammar.{Spells}
@@ -25,15 +24,14 @@ use Rattle.rv_isa.proofs.Lemmas.{holds-last-uses}
 use Rattle.rv_file.proofs.Lemmas.{form_is_grammar, ok_is}
 use Rattle.rv_sound.specs.Accepted.{ReadsAccepted}
 use Rattle.rv_sound.proofs.RecordAccepted.{record-spells}
-use Rattle.rv_query.specs.Accesses.{Numbered, own_time, numbered, accesses_before, latest, last_access}
+use Rattle.rv_query.specs.Accesses.{Numbered, own_time, numbered, accesses_before, last_access}
 use Rattle.rv_query.specs.Questions.{cell_seen, register_seen, state_seen, image_of, cell_answer, state_answer, snapshot}
-use Rattle.rv_query.specs.OfRun.{Accepts, cell_of_run, StateIsOfRun, CellIsOfRun}
+use Rattle.rv_query.specs.OfRun.{Accepts, cell_of_run}
 use Rattle.rv_query.specs.Following.{trail}
 use Rattle.rv_query.specs.declared.questions.CellSeen.{CellSeen}
-use Rattle.rv_query.specs.declared.questions.Snapshot.{Snapshot}
 use Rattle.rv_query.proofs.Latest.{counts, time_in, latest-time}
 use Rattle.rv_query.proofs.Trails.{trail-shown}
-use Rattle.rv_query.proofs.Early.{of_trail, seen-early}
+use Rattle.rv_query.proofs.Early.{seen-early}
 use Rattle.rv_query.proofs.Uses.{latest-in, of-filter}
 use Rattle.rv_query.proofs.OwnTimes.{Rise, rise-above, trace-rises, left-at}
 use Rattle.rv_query.proofs.TraceRows.{left_by, trace-leaves, record-rows}

@@ -1,5 +1,5 @@
 -- The accesses of a trace have times of their own, which rise from 1 on.
-use Rattle.std.proofs.Common.{◌≡◌, ℕ, zero, suc, ◌+◌, ◌<◌, ◌≤◌, Bool, true, false, cond, ◌==◌, List, [], ◌∷◌, ◌++◌, map, find, Option, Some, option_map, unwrap_or, refl, sym, ap, subst, ◌∙◌, inl, inr, arith}
+use Rattle.std.proofs.Common.{◌≡◌, ℕ, zero, suc, ◌+◌, ◌≤◌, true, false, cond, ◌==◌, List, [], ◌∷◌, ◌++◌, map, find, Some, option_map, unwrap_or, refl, sym, ap, subst, ◌∙◌, inl, inr, arith}
 use Rattle.std.proofs.lemmas.List.{map-append}
 use Rattle.std.proofs.lemmas.Bool.{eqb-true}
 use Rattle.rv_base.specs.declared.record.Tuple.{Tuple}
@@ -11,7 +11,7 @@ use Rattle.rv_spec.specs.Visits.{Use, visit, visits, step_uses}
 use Rattle.rv_spec.specs.Trace.{history, access, row, rows, left_at}
 use Rattle.rv_rules.specs.Chain.{at}
 use Rattle.rv_rules.specs.Membership.{In}
-use Rattle.rv_rules.proofs.Lemmas.{at-is, left_true, right_true}
+use Rattle.rv_rules.proofs.Lemmas.{at-is, right_true}
 use Rattle.rv_isa.specs.Ranges.{Rises}
 use Rattle.rv_isa.proofs.Lemmas.{step-slots-rise}
 use Rattle.rv_query.specs.Accesses.{Numbered, own_time, numbered}

@@ -1,8 +1,7 @@
 -- Rows one after another: their accesses, and the bytes that begin with them.
-use Rattle.std.proofs.Common.{◌≡◌, ℕ, zero, suc, ◌+◌, ◌<◌, ◌≤◌, List, [], ◌∷◌, ◌++◌, length, map, take, drop, Some, slice_get, refl, sym, ap, subst, ◌∙◌, append_assoc, append-nil, add-zero, arith}
+use Rattle.std.proofs.Common.{◌≡◌, ℕ, zero, suc, ◌+◌, ◌<◌, List, [], ◌∷◌, ◌++◌, length, map, take, drop, Some, slice_get, sym, ap, subst, ◌∙◌, append_assoc, append-nil, add-zero, arith}
 use Rattle.std.specs.List.{flat_map, AllByRecursion}
 use Rattle.std.proofs.lemmas.List.{drop_at}
-use Rattle.rv_base.specs.declared.record.Access.{Access}
 use Rattle.rv_spec.specs.Trace.{Row}
 use Rattle.rv_spec.specs.Record.{row_bytes, row_length}
 use Rattle.rv_spec.specs.Grammar.{RowFits}

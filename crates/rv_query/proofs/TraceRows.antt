@@ -1,5 +1,5 @@
 -- The rows of a run's record are those of the trace, and what their accesses leave is the history of the run.
-use Rattle.std.proofs.Common.{◌≡◌, ℕ, zero, suc, ◌+◌, ◌-◌, ◌*◌, ◌<◌, ◌≤◌, min, List, [], ◌∷◌, ◌++◌, length, map, refl, sym, ap, ◌∙◌, inl, inr, append_assoc, append-nil, arith}
+use Rattle.std.proofs.Common.{◌≡◌, ℕ, zero, suc, ◌+◌, ◌-◌, ◌*◌, ◌<◌, List, [], ◌∷◌, ◌++◌, map, refl, sym, ap, ◌∙◌, inl, inr, append_assoc, append-nil, arith}
 use Rattle.std.specs.List.{flat_map, range_with_len}
 use Rattle.std.specs.Int.{div_ceil}
 use Rattle.std.proofs.lemmas.List.{map-append}
@@ -12,7 +12,7 @@ use Rattle.rv_spec.specs.Cells.{time_of}
 use Rattle.rv_spec.specs.Visits.{Visit, visits}
 use Rattle.rv_spec.specs.Trace.{Row, tuples_left, history, access, row, rows}
 use Rattle.rv_spec.specs.Digest.{Lanes}
-use Rattle.rv_spec.specs.Record.{Shard, all_rows, shard, shard_rows, record_parts}
+use Rattle.rv_spec.specs.Record.{all_rows, shard, shard_rows, record_parts}
 use Rattle.rv_sound.proofs.Shards.{shard-starts, shards-suffice}
 use Rattle.rv_sound.proofs.ListLemmas.{rows-split}
 use Rattle.rv_query.specs.Accesses.{Numbered, own_time, numbered}

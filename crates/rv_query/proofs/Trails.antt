@@ -2,9 +2,9 @@
 use Rattle.std.proofs.Common.{◌≡◌, ℕ, ◌+◌, ◌<◌, ◌≤◌, Bool, true, false, cond, not, ◌==◌, ◌&&◌, nat_lt, List, [], ◌∷◌, ◌++◌, length, map, get_or, set, Option, Some, None, option_map, unwrap_or, refl, sym, ap, ◌∙◌, subst, append_assoc, append-nil, length-set, get_or-set_same, get_or-set_other, ◌≢◌, filter, inl, inr, eqb-true, arith}
 use Rattle.std.specs.List.{range_with_len}
 use Rattle.std.proofs.lemmas.Bool.{eq-eqb, ne_eqb, ltb-true, ltb-false, lt-ltb, cases_lt}
-use Rattle.std.proofs.lemmas.List.FromFn.{length-map-range_with_len, get_or-map-range_with_len, fill_by_all}
+use Rattle.std.proofs.lemmas.List.FromFn.{get_or-map-range_with_len, fill_by_all}
 use Rattle.rv_spec.specs.Cells.{time_of}
-use Rattle.rv_query.specs.Accesses.{Numbered, own_time, latest, accesses_before, last_access, last_change}
+use Rattle.rv_query.specs.Accesses.{Numbered, own_time, latest, last_access, last_change}
 use Rattle.rv_query.specs.Following.{trail, AreTrails, GoPast}
 use Rattle.rv_query.specs.declared.trail.Trail.{Trail}
 use Rattle.rv_query.proofs.Latest.{time_in, counts, changes, last-next, change-next, change-kept, before-kept}

@@ -1,9 +1,9 @@
 -- The latest of some accesses is one of them.
-use Rattle.std.proofs.Common.{◌≡◌, ℕ, Bool, true, false, cond, List, [], ◌∷◌, ◌++◌, reverse, find, filter, Option, Some, None, refl, sym, ap, subst, ◌∙◌, inl, inr}
+use Rattle.std.proofs.Common.{◌≡◌, Bool, true, false, cond, List, [], ◌∷◌, reverse, find, filter, Some, refl, sym, ap, subst, ◌∙◌, inl, inr}
 use Rattle.std.proofs.lemmas.List.{reverse-append}
 use Rattle.rv_rules.specs.Membership.{In}
 use Rattle.rv_rules.proofs.Lemmas.{in-append}
-use Rattle.rv_query.specs.Accesses.{Numbered, own_time, latest}
+use Rattle.rv_query.specs.Accesses.{Numbered, latest}
 
 -- what is found stands in the list
 found-in : (test : Numbered → Bool) (xs : List Numbered) (a : Numbered) → find test xs ≡ Some a → In a xs

@@ -1,11 +1,11 @@
-use Rattle.std.proofs.Common.{◌≡◌, ℕ, ◌+◌, ◌*◌, ◌/◌, ◌%◌, ◌<◌, ◌≤◌, Some, slice_get, take, sym, ap, subst, ◌∙◌, arith}
+use Rattle.std.proofs.Common.{◌≡◌, ◌+◌, ◌*◌, ◌/◌, ◌%◌, ◌<◌, ◌≤◌, Some, slice_get, take, ap, subst, arith}
 use Rattle.rv_base.specs.declared.record.Header.{Header}
 use Rattle.rv_spec.specs.Record.{Shard}
-use Rattle.rv_text.proofs.Shards.{rows_in, sized}
+use Rattle.rv_text.proofs.Shards.{rows_in}
 use Rattle.rv_query.specs.Accesses.{numbered}
 use Rattle.rv_query.specs.Following.{BehindRows, GoPast}
 use Rattle.rv_query.proofs.Trails.{past-none}
-use Rattle.rv_query.proofs.Cuts.{past-shard, past-last, row-begins, shard-there, rows-there, whole-before}
+use Rattle.rv_query.proofs.Cuts.{past-shard, past-last, row-begins, shard-there, whole-before}
 use Rattle.rv_query.proofs.following.follow.Goals as goal
 
 pub loop-i-init : goal.loop-i-init

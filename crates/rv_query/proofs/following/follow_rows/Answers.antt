@@ -1,4 +1,4 @@
-use Rattle.std.proofs.Common.{ap, subst, sym, ◌+◌, ◌++◌, ◌≡◌, ◌∙◌, List, map, take, drop, arith}
+use Rattle.std.proofs.Common.{ap, subst, ◌+◌, ◌++◌, ◌≡◌, ◌∙◌, List, map, take, drop, arith}
 use Rattle.std.specs.List.{flat_map}
 use Rattle.rv_base.specs.declared.record.Access.{Access}
 use Rattle.rv_spec.specs.Record.{row_bytes}

@@ -1,4 +1,4 @@
-use Rattle.std.proofs.Common.{◌≡◌, ℕ, ◌+◌, ◌*◌, ◌<◌, ◌≤◌, List, ◌++◌, Some, option_map, slice_get, length, drop, take, sym, ap, subst, ◌∙◌, arith}
+use Rattle.std.proofs.Common.{◌≡◌, ℕ, ◌*◌, ◌<◌, ◌≤◌, List, ◌++◌, Some, option_map, slice_get, length, take, ap, subst, ◌∙◌, arith}
 use Rattle.rv_base.specs.declared.record.Header.{Header}
 use Rattle.rv_spec.specs.Digest.{set_digest_bytes}
 use Rattle.rv_spec.specs.Record.{Shard, Parts, shard_bytes}
@@ -6,7 +6,7 @@ use Rattle.rv_spec.specs.Grammar.{PartsFit}
 use Rattle.rv_text.proofs.RowSteps.{take_rest}
 use Rattle.rv_query.specs.Accesses.{numbered}
 use Rattle.rv_query.specs.Following.{BehindRows, GoPast}
-use Rattle.rv_query.proofs.Cuts.{IsShardAt, shard-is, behind_head}
+use Rattle.rv_query.proofs.Cuts.{shard-is, behind_head}
 use Rattle.rv_query.proofs.following.follow_shard.Goals as goal
 
 abbrev pub here : (p : Parts) (i : ℕ) (bytes : List ℕ) → PartsFit p → i < length p.shards → Some bytes ≡ option_map shard_bytes (slice_get p.shards i) → 32 ≤ length bytes

@@ -1,4 +1,4 @@
-use Rattle.std.proofs.Common.{ℕ, ◌+◌, []}
+use Rattle.std.proofs.Common.{ℕ, []}
 use Rattle.rv_spec.specs.Cells.{initial_value, register_cell}
 use Rattle.rv_spec.specs.Elf.{image}
 use Rattle.rv_query.specs.Following.{trail}

@@ -1,6 +1,5 @@
-use Rattle.std.proofs.Common.{◌≡◌, Some, sym, ap, ◌∙◌, refl, arith}
+use Rattle.std.proofs.Common.{Some, ap, ◌∙◌, refl, arith}
 use Rattle.rv_query.specs.Accesses.{Numbered}
-use Rattle.rv_query.specs.declared.trail.Trail.{Trail}
 use Rattle.rv_query.proofs.Trails.{past-read, past-change}
 use Rattle.rv_query.proofs.trail.Trail.past.Goals as goal
 
