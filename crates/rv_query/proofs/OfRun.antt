@@ -3,6 +3,7 @@ use Rattle.std.proofs.Common.{◌≡◌, ◌⊎◌, ℕ, zero, suc, ◌+◌, ◌
 use Rattle.std.specs.List.{range_with_len}
 use Rattle.std.proofs.lemmas.List.FromFn.{take-map-range_with_len}
 use Rattle.std.proofs.lemmas.Bool.{eqb-true, ne_eqb, lt-ltb, le-ltb}
+use Rattle.rv_base.specs.declared.cells.TheConstants.{REGISTER_CELLS, RESERVATION_CELL}
 use Rattle.rv_base.specs.declared.record.End.{End}
 use Rattle.rv_base.specs.declared.record.Refusal.{Refusal}
 use Rattle.rv_base.specs.declared.record.Verdict.TheVariants.{Accept}
@@ -101,11 +102,11 @@ module _ (i : Image) (input : List ℕ) (n s : ℕ) (within : s < n) where
   value-register : (r : ℕ) → r < 32 → value state (register_cell r) ≡ register state r
   unfolding value
   value-register r lt =
-      let above : nat_lt (register_cell r) 1073741824 ≡ false = le-ltb (register_cell r) 1073741824 (omega arith) in
-      let other : (register_cell r == 1073741856) ≡ false = ne_eqb (register_cell r) 1073741856 (λ e. absurd (omega (arith, e, lt))) in
-      let place : register_cell r - 1073741824 ≡ r = omega arith in
-      ap (λ b. cond b (word state.memory (register_cell r)) (cond (register_cell r == 1073741856) state.reservation (register state (register_cell r - 1073741824)))) above
-      ∙ ap (λ b. cond b state.reservation (register state (register_cell r - 1073741824))) other ∙ ap (register state) place
+      let above : nat_lt (register_cell r) REGISTER_CELLS ≡ false = le-ltb (register_cell r) REGISTER_CELLS (omega arith) in
+      let other : (register_cell r == RESERVATION_CELL) ≡ false = ne_eqb (register_cell r) RESERVATION_CELL (λ e. absurd (omega (arith, e, lt))) in
+      let place : register_cell r - REGISTER_CELLS ≡ r = omega arith in
+      ap (λ b. cond b (word state.memory (register_cell r)) (cond (register_cell r == RESERVATION_CELL) state.reservation (register state (register_cell r - REGISTER_CELLS)))) above
+      ∙ ap (λ b. cond b state.reservation (register state (register_cell r - REGISTER_CELLS))) other ∙ ap (register state) place
 
   register-shown : (r : ℕ) → r < 32 → register_seen i trace s r ≡ register state r
   register-shown r lt = go (r == 0) refl

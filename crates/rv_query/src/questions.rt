@@ -80,7 +80,7 @@ fn pc_of(bytes: &[u8]) -> u32
     }
 }
 
-/// The state before a step, by the accesses of a file: none exactly where the file has no such step. One pass over the rows before the step; it takes no memory.
+/// The state before a step, by the accesses of a file: none exactly where the file has no such step. One pass over the rows before the step, which finds each shard by the heads of those before it; it takes no memory.
 pub fn state_at(program: &Program<'_>, parsed: &Parsed<'_>, step: u64) -> Option<Snapshot>
     requires { PartsFit parsed.now }
     ensures exact { result ≡ state_answer program.now.elf parsed.now step }
@@ -99,7 +99,7 @@ pub fn state_at(program: &Program<'_>, parsed: &Parsed<'_>, step: u64) -> Option
 }
 
 /// A cell before a step, by the accesses of a file: none exactly where the file has no such step. A cell is the number of a word of memory (below 2^30),
-/// 2^30 and the number of a register (1 to 31), or in version 2 that of the reservation, 2^30 + 32. One pass over the rows before the step; it takes no memory.
+/// 2^30 and the number of a register (1 to 31), or in version 2 that of the reservation, 2^30 + 32. One pass over the rows before the step, which finds each shard by the heads of those before it; it takes no memory.
 pub fn cell_at(program: &Program<'_>, parsed: &Parsed<'_>, cell: u32, step: u64) -> Option<CellSeen>
     requires fit { PartsFit parsed.now }
     requires cell { IsTrue (is_cell parsed.now.header.version cell) }
