@@ -15,13 +15,17 @@ use Rattle.rv_gen.proofs.Harmless.{IsFree}
 abbrev pub data_start : ℕ
 data_start = 0x20000
 
--- At instruction k the memory below the data and from the code on is m's. x8 has the base and x9 the count, x17 is no exit, and four bytes from x11 on are not in the code.
+-- four bytes from an address on are not in the code
+abbrev pub IsOffCode : ℕ → Type 0
+IsOffCode a = (a + 4 ≤ code_start) ⊎ (data_start ≤ a)
+
+-- At instruction k the memory from the code on and below the data is m's. x8 has the base and x9 the count, x17 has no number of an exit, and the buffer that x11 names is not in the code.
 pub record Between (m : Memory) (base count k : ℕ) (s : State) : Type 0 where
   pub pc : s.pc ≡ code_start + 4 * k
   pub many : length s.registers ≡ 31
   pub based : slice_index s.registers 7 ≡ base
   pub counted : slice_index s.registers 8 ≡ count
-  pub buffer : (slice_index s.registers 10 + 4 ≤ code_start) ⊎ (data_start ≤ slice_index s.registers 10)
+  pub buffer : IsOffCode (slice_index s.registers 10)
   pub call : slice_index s.registers 16 ≤ 64
   pub code : (a : ℕ) → code_start ≤ a → a < data_start → byte s.memory a ≡ byte m a
 
@@ -40,7 +44,7 @@ CodeAt m k (i ∷ is) = Fetches m k i × CodeAt m (suc k) is
 pub four-same : (a b c d x y z w : ℕ) → a ≡ x → b ≡ y → c ≡ z → d ≡ w → a ∷ b ∷ c ∷ d ∷ [] ≡ x ∷ y ∷ z ∷ w ∷ []
 four-same a b c d x y z w e f g h = ap (λ a. a ∷ b ∷ c ∷ d ∷ []) e ∙ ap (λ b. x ∷ b ∷ c ∷ d ∷ []) f ∙ ap (λ c. x ∷ y ∷ c ∷ d ∷ []) g ∙ ap (λ d. x ∷ y ∷ z ∷ d ∷ []) h
 
--- what a step at instruction k does, without the registers that only the loop needs
+-- what a step at instruction k does, whatever the registers hold
 pub fetched : (input : List ℕ) (m : Memory) (k : ℕ) (i : Instr) (s : State) → Fetches m k i → s.pc ≡ code_start + 4 * k
     → ((a : ℕ) → code_start ≤ a → a < data_start → byte s.memory a ≡ byte m a) → step input s ≡ execute input i s
 unfolding step decode_any
@@ -86,7 +90,7 @@ module _ (m : Memory) (base count k : ℕ) where
     many = as-many s.registers r v ∙ b.many;
     based = other-register s.registers r v 7 free.0 ∙ b.based;
     counted = other-register s.registers r v 8 free.1 ∙ b.counted;
-    buffer = subst (λ x. (x + 4 ≤ code_start) ⊎ (data_start ≤ x)) (sym (other-register s.registers r v 10 free.2)) b.buffer;
+    buffer = subst IsOffCode (sym (other-register s.registers r v 10 free.2)) b.buffer;
     call = subst (λ x. x ≤ 64) (sym (other-register s.registers r v 16 free.3)) b.call;
     code = b.code;
   }
@@ -98,7 +102,7 @@ module _ (m : Memory) (base count k : ℕ) where
     many = as-many s.registers 17 n ∙ b.many;
     based = other-register s.registers 17 n 7 (λ e. omega arith) ∙ b.based;
     counted = other-register s.registers 17 n 8 (λ e. omega arith) ∙ b.counted;
-    buffer = subst (λ x. (x + 4 ≤ code_start) ⊎ (data_start ≤ x)) (sym (other-register s.registers 17 n 10 (λ e. omega arith))) b.buffer;
+    buffer = subst IsOffCode (sym (other-register s.registers 17 n 10 (λ e. omega arith))) b.buffer;
     call = subst (λ x. x ≤ 64) (sym (get_or-set_same s.registers 16 n 0 (let many = b.many in omega arith))) small;
     code = b.code;
   }
@@ -115,14 +119,14 @@ module _ (m : Memory) (base count k : ℕ) where
     code = b.code;
   }
 
-  -- the base and the count are set
+  -- x8 and x9 take the base and the count
   pub base-set : (s : State) (a : ℕ) → Between m base count k s → Between m a count k (with_register 8 a s)
   base-set s a b = record {
     pc = b.pc;
     many = as-many s.registers 8 a ∙ b.many;
     based = get_or-set_same s.registers 7 a 0 (let many = b.many in omega arith);
     counted = other-register s.registers 8 a 8 (λ e. omega arith) ∙ b.counted;
-    buffer = subst (λ x. (x + 4 ≤ code_start) ⊎ (data_start ≤ x)) (sym (other-register s.registers 8 a 10 (λ e. omega arith))) b.buffer;
+    buffer = subst IsOffCode (sym (other-register s.registers 8 a 10 (λ e. omega arith))) b.buffer;
     call = subst (λ x. x ≤ 64) (sym (other-register s.registers 8 a 16 (λ e. omega arith))) b.call;
     code = b.code;
   }
@@ -133,7 +137,7 @@ module _ (m : Memory) (base count k : ℕ) where
     many = as-many s.registers 9 n ∙ b.many;
     based = other-register s.registers 9 n 7 (λ e. omega arith) ∙ b.based;
     counted = get_or-set_same s.registers 8 n 0 (let many = b.many in omega arith);
-    buffer = subst (λ x. (x + 4 ≤ code_start) ⊎ (data_start ≤ x)) (sym (other-register s.registers 9 n 10 (λ e. omega arith))) b.buffer;
+    buffer = subst IsOffCode (sym (other-register s.registers 9 n 10 (λ e. omega arith))) b.buffer;
     call = subst (λ x. x ≤ 64) (sym (other-register s.registers 9 n 16 (λ e. omega arith))) b.call;
     code = b.code;
   }

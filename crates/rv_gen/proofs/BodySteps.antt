@@ -9,8 +9,8 @@ use Rattle.rv_spec.specs.Words.{Memory, bytes_from, store_bytes, plus}
 use Rattle.rv_spec.specs.Arithmetic.{compute, taken}
 use Rattle.rv_spec.specs.Step.{State, Transition, Next, Ends, register, with_register, with_memory, advance, jump, exits, stops, load_width, store_width, load_value, store_value, within_word, return_in_a0, read_call, write_call, environment_call, execute, step}
 use Rattle.rv_gen.specs.Programs.{code_start}
-use Rattle.rv_gen.proofs.Harmless.{IsFree, IsInData, IsWidth, NamesCall, NamesBuffer, IsHarmless, width-of-load, width-of-store}
-use Rattle.rv_gen.proofs.Between.{data_start, Between, Fetches, step-is, free-stays, number-stays, buffer-stays, memory-stays, streams-stay, counter-moves}
+use Rattle.rv_gen.proofs.Harmless.{IsFree, IsInData, IsWidth, NamesCall, NamesBuffer, IsHarmless, x10-free, width-of-load, width-of-store}
+use Rattle.rv_gen.proofs.Between.{data_start, IsOffCode, Between, Fetches, step-is, free-stays, number-stays, buffer-stays, memory-stays, streams-stay, advances, counter-moves}
 
 -- the run goes on at the next instruction or at the one behind it
 abbrev pub Moves : Memory → ℕ → ℕ → ℕ → Transition → Type 0
@@ -25,7 +25,7 @@ module _ (m : Memory) (count k : ℕ) (below : k < 1000) where
   Goes t = Moves m data_start count k t
 
   advance-goes : (s : State) → Here s → Goes (advance s)
-  advance-goes s b = inl (counter-moves m data_start count k s ((s.pc + 4) % 2 ^ 32) (suc k) (let pc = b.pc in omega arith) b)
+  advance-goes s b = inl (advances m data_start count k s below b)
 
   sets-goes : (s : State) (r v : ℕ) → IsFree r → Here s → Goes (advance (with_register r v s))
   sets-goes s r v free b = advance-goes (with_register r v s) (free-stays m data_start count k s r v free b)
@@ -66,7 +66,7 @@ module _ (m : Memory) (count k : ℕ) (below : k < 1000) where
   -- ---- calls
 
   answer-goes : (s : State) (v : ℕ) → Here s → Goes (return_in_a0 v s)
-  answer-goes s v b = sets-goes s 10 v ((λ e. omega arith), (λ e. omega arith), (λ e. omega arith), (λ e. omega arith)) b
+  answer-goes s v b = sets-goes s 10 v x10-free b
 
   stays-filled : (input : List ℕ) (s : State) (moved : ℕ) → moved ≤ 4 → Here s → Here (record s { memory = store_bytes s.memory (register s 11) (take moved (drop s.position input)); position = s.position + moved })
   stays-filled input s moved most b =
@@ -74,7 +74,7 @@ module _ (m : Memory) (count k : ℕ) (below : k < 1000) where
       let few : length bytes ≤ 4 = omega (arith, length-take moved (drop s.position input)) in
       streams-stay m data_start count k (with_memory (store_bytes s.memory (register s 11) bytes) s) (s.position + moved) s.output (memory-stays m data_start count k s (register s 11) bytes (outside few b.buffer) b)
     where
-      outside : length (take moved (drop s.position input)) ≤ 4 → (register s 11 + 4 ≤ code_start) ⊎ (data_start ≤ register s 11)
+      outside : length (take moved (drop s.position input)) ≤ 4 → IsOffCode (register s 11)
           → (register s 11 + length (take moved (drop s.position input)) ≤ code_start) ⊎ (data_start ≤ register s 11)
       outside few (inl below) = inl (omega arith)
       outside few (inr above) = inr above

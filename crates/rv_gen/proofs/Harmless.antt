@@ -13,7 +13,7 @@ use Rattle.rv_gen.specs.Draws.{Draw, draw, ◌>>=◌}
 use Rattle.rv_gen.specs.Programs as gen
 use Rattle.rv_gen.specs.Programs.{loads, stores, pool, small, offset, register_item, immediate_item, upper_item, load_item, store_item, branch_item, call_item, single_item, alone, item_of, item, items, word, filled}
 
--- none of x8, the base of the data, x9, the count, x11, the buffer of a call, and x17, its number
+-- none of x8, the base of the data, x9, the count of rounds, x11, the buffer of a call, and x17, its number
 abbrev pub IsFree : ℕ → Type 0
 IsFree r = (r ≢ 8) × (r ≢ 9) × (r ≢ 11) × (r ≢ 17)
 
@@ -57,6 +57,12 @@ IsWidth width = (width ≡ 1) ⊎ ((width ≡ 2) ⊎ (width ≡ 4))
 
 free : (r : ℕ) → 18 ≤ r → IsFree r
 free r h = ((λ e. omega arith), (λ e. omega arith), (λ e. omega arith), (λ e. omega arith))
+
+pub x10-free : IsFree 10
+x10-free = ((λ e. omega arith), (λ e. omega arith), (λ e. omega arith), (λ e. omega arith))
+
+x12-free : IsFree 12
+x12-free = ((λ e. omega arith), (λ e. omega arith), (λ e. omega arith), (λ e. omega arith))
 
 pool-free : (s : ℕ) → IsFree (pool s).0
 unfolding pool ◌>>=◌
@@ -139,21 +145,12 @@ call-harmless : (s : ℕ) → AreHarmless (call_item s).0
 unfolding call_item ◌>>=◌
 call-harmless s =
     let o = (draw 2 s).0 in
-    let t = (draw 2 s).1 in
+    let f = (draw 2048 (draw 2 s).1).0 in
     let below : o < 2 = draw-below 2 s (omega arith) in
-    let within : (draw 2048 t).0 < 2048 = draw-below 2048 t (omega arith) in (
-      inr (inl (record { number = 63 + o; small = omega arith; is = refl })),
-      (
-        inl ((λ e. omega arith), (λ e. omega arith), (λ e. omega arith), (λ e. omega arith)),
-        (
-          inr (inr (record { place = (draw 2048 t).0; within = within; is = refl })),
-          (
-            inl ((λ e. omega arith), (λ e. omega arith), (λ e. omega arith), (λ e. omega arith)),
-            (tt, tt),
-          ),
-        ),
-      ),
-    )
+    let within : f < 2048 = draw-below 2048 (draw 2 s).1 (omega arith) in
+    let named : NamesCall (gen.li 17 (pos (63 + o))) = record { number = 63 + o; small = omega arith; is = refl } in
+    let buffer : NamesBuffer (instr.OpImm op.Add 11 8 (pos f)) = record { place = f; within = within; is = refl } in
+    (inr (inl named), (inl x10-free, (inr (inr buffer), (inl x12-free, (tt, tt)))))
 
 choice-harmless : (b : Bool) (x y : Draw Instr) (s : ℕ) → IsHarmless (x s).0 → IsHarmless (y s).0 → IsHarmless ((if b then x else y) s).0
 choice-harmless true x y s h k = h
@@ -186,10 +183,7 @@ harmless-append (i ∷ is) js h k = (h.0, harmless-append is js h.1 k)
 -- the items of the body
 pub items-harmless : (n s : ℕ) → AreHarmless (items n s).0
 unfolding items item ◌>>=◌
-items-harmless zero s = nothing
-  where
-    nothing : AreHarmless []
-    nothing = tt
+items-harmless zero s = tt
 items-harmless (suc n) s =
     let k = (draw 16 s).0 in
     let t = (draw 16 s).1 in
@@ -202,8 +196,5 @@ word-harmless r s h = (free r h, (inl (free r h), tt))
 
 pub filled-harmless : (n r s : ℕ) → 18 ≤ r → AreHarmless (filled n r s).0
 unfolding filled ◌>>=◌
-filled-harmless zero r s h = nothing
-  where
-    nothing : AreHarmless []
-    nothing = tt
+filled-harmless zero r s h = tt
 filled-harmless (suc n) r s h = harmless-append (word r s).0 (filled n (r + 1) (word r s).1).0 (word-harmless r s h) (filled-harmless n (r + 1) (word r s).1 (omega arith))

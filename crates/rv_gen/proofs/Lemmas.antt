@@ -4,3 +4,5 @@
 pub use Rattle.rv_gen.proofs.Success.{programs-succeed}
 -- what its executable loads
 pub use Rattle.rv_gen.proofs.Success.{program-image}
+-- so many steps are within the limit of shards
+pub use Rattle.rv_gen.proofs.Success.{few-shards}

@@ -1,6 +1,7 @@
 -- Each generated program ends with success.
 use Rattle.std.proofs.Common.{◌≡◌, inl, ℕ, zero, suc, ◌+◌, ◌*◌, ◌/◌, ◌≤◌, List, [], ◌∷◌, ◌++◌, length, map, Some, refl, sym, ◌∙◌, ap, subst, arith, length-append}
-use Rattle.std.specs.Int.{IsInRange}
+use Rattle.std.specs.Int.{IsInRange, div_ceil}
+use Rattle.rv_base.specs.declared.limits.TheConstants.{SHARDS_LIMIT}
 use Rattle.rv_base.specs.declared.instr.Instr.{Instr}
 use Rattle.rv_spec.specs.Decode.{decode}
 use Rattle.rv_spec.specs.Elf.{Image, image}
@@ -89,3 +90,7 @@ pub program-image : (number size : ℕ) (file input : List ℕ) (is : IsProgram 
 program-image number size file input is =
     let few = few-code number size is.code is.spells in
     ap (image 1) is.elf ∙ executable-image is.code (omega arith)
+
+-- with 1,024 rows in a shard, so many steps have few shards
+pub few-shards : (steps : ℕ) → steps ≤ 326025 → div_ceil steps 1024 ≤ SHARDS_LIMIT
+few-shards steps few = omega arith
