@@ -11,7 +11,7 @@ use Rattle.rv_gen.specs.Words.{decoded, Adds, AddsPair, AddsDrawn}
 use Rattle.rv_gen.specs.Programs.{word, call_item, single_item, alone, item_of, item, items, filled, front, back, code, drawn}
 use Rattle.rv_gen.proofs.Binds.{adds_more}
 
-length-map : {A B : Type 0} (f : A → B) (xs : List A) → length (map f xs) ≡ length xs
+pub length-map : {A B : Type 0} (f : A → B) (xs : List A) → length (map f xs) ≡ length xs
 length-map f [] = refl
 length-map f (x ∷ xs) = ap (λ n. suc n) (length-map f xs)
 

@@ -1,2 +1,10 @@
 pub mod Binds
 pub mod Lengths
+pub mod Harmless
+pub mod Between
+pub mod BodySteps
+pub mod Ending
+pub mod Rounds
+pub mod Image
+pub mod Success
+pub mod Lemmas

@@ -4,3 +4,5 @@ pub mod Draws
 pub mod Words
 -- generated programs
 pub mod Programs
+-- how their runs end
+pub mod Runs

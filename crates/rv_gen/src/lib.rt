@@ -3,6 +3,7 @@
 
 mod draws;
 mod items;
+pub mod laws;
 mod made;
 mod words;
 
