@@ -1,0 +1,4 @@
+pub mod Bounds
+pub mod ShardsOfParts
+pub mod CutLaws
+pub mod Fronts

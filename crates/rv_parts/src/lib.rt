@@ -1,0 +1,11 @@
+//! A record file in parts: cut into them, each judged alone, and joined to the verdict on the whole.
+#![tactic(auto)]
+
+mod cutting;
+mod heads;
+mod laws;
+mod walking;
+
+pub use cutting::{PARTS_LIMIT, PartCut, part_cut};
+pub use heads::{PART_HEAD_BYTES, PartHead, read_part};
+pub use laws::parts_are_the_file;
