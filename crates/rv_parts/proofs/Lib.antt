@@ -2,3 +2,6 @@ pub mod Bounds
 pub mod ShardsOfParts
 pub mod CutLaws
 pub mod Fronts
+pub mod ShardsFollow
+pub mod ShardsSeen
+pub mod SummaryLaws

@@ -1,2 +1,4 @@
 pub mod Heads
 pub mod Cutting
+pub mod Alone
+pub mod Summaries

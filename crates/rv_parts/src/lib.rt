@@ -4,8 +4,13 @@
 mod cutting;
 mod heads;
 mod laws;
+mod shards;
+mod summaries;
+#[cfg(test)]
+mod tests;
 mod walking;
 
 pub use cutting::{PARTS_LIMIT, PartCut, part_cut};
 pub use heads::{PART_HEAD_BYTES, PartHead, read_part};
 pub use laws::parts_are_the_file;
+pub use summaries::{Cut, Summary, summarize};
