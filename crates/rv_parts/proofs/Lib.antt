@@ -5,3 +5,4 @@ pub mod Fronts
 pub mod ShardsFollow
 pub mod ShardsSeen
 pub mod SummaryLaws
+pub mod CombineLaws

@@ -2,3 +2,4 @@ pub mod Heads
 pub mod Cutting
 pub mod Alone
 pub mod Summaries
+pub mod Combining

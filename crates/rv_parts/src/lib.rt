@@ -1,6 +1,7 @@
 //! A record file in parts: cut into them, each judged alone, and joined to the verdict on the whole.
 #![tactic(auto)]
 
+mod combining;
 mod cutting;
 mod heads;
 mod laws;
@@ -10,6 +11,7 @@ mod summaries;
 mod tests;
 mod walking;
 
+pub use combining::combine;
 pub use cutting::{PARTS_LIMIT, PartCut, part_cut};
 pub use heads::{PART_HEAD_BYTES, PartHead, read_part};
 pub use laws::parts_are_the_file;
