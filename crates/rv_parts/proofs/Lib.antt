@@ -6,3 +6,4 @@ pub mod ShardsFollow
 pub mod ShardsSeen
 pub mod SummaryLaws
 pub mod CombineLaws
+pub mod Continuing

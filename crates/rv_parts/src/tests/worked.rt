@@ -105,7 +105,7 @@ const WRITES: [Tuple; 7] = [
     },
 ];
 
-pub const TABLE: [TableEntry; 5] = [
+const TABLE: [TableEntry; 5] = [
     TableEntry {
         cell: 0x4000,
         value: 0x02A0_0513,
@@ -133,34 +133,18 @@ pub const TABLE: [TableEntry; 5] = [
     },
 ];
 
-/// What a record in one shard tells.
-#[derive(Clone, Copy)]
-pub struct Told {
-    pub code: u32,
-    pub rows: [u8; 174],
-    pub reads: [Tuple; 7],
-    pub writes: [Tuple; 7],
-}
-
-pub const TOLD: Told = Told {
-    code: 42,
-    rows: ROWS,
-    reads: READS,
-    writes: WRITES,
-};
-
-/// The header of the record in shards of so many rows.
-fn header_of(program: &Program<'_>, size: u32, shards: u32, code: u32) -> Header
+/// The header of the record in three shards.
+fn header_of(program: &Program<'_>) -> Header
     ensures { result.version ≡ 1 }
 {
     Header {
         version: 1,
         elf: program.elf_hash(),
         input: program.input_hash(),
-        size,
+        size: 1,
         steps: 3,
-        shards,
-        end: End { kind: 0, code },
+        shards: 3,
+        end: End { kind: 0, code: 42 },
         consumed: 0,
         length: 0,
     }
@@ -206,30 +190,10 @@ fn push_table(file: &mut Vec<u8>, entries: &[TableEntry]) -> Result<(), AllocErr
     Ok(())
 }
 
-/// A record in one shard, with this table.
-pub fn record(
-    alloc: Global,
-    program: &Program<'_>,
-    told: &Told,
-    table: &[TableEntry],
-) -> Result<Vec<u8>, AllocError> {
-    let mut file = Vec::new(alloc);
-    file.extend_from_slice(&write_header(&header_of(program, 3, 1, told.code)))?;
-    push_shard(
-        &mut file,
-        (0, 0x10000),
-        (3, &told.rows),
-        &told.reads,
-        &told.writes,
-    )?;
-    push_table(&mut file, table)?;
-    Ok(file)
-}
-
 /// The record in three shards.
 pub fn record_in_three(alloc: Global, program: &Program<'_>) -> Result<Vec<u8>, AllocError> {
     let mut file = Vec::new(alloc);
-    file.extend_from_slice(&write_header(&header_of(program, 1, 3, 42)))?;
+    file.extend_from_slice(&write_header(&header_of(program)))?;
     push_shard(
         &mut file,
         (0, 0x10000),
