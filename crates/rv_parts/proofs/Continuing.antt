@@ -62,7 +62,7 @@ was_refused (Ok x) f r e = absurd cc
 was_refused (Err t) f r e = let same : t ≡ r = cc in ap (λ z. Err z) same
 
 module _ (lanes : Lanes) (s : Subject) where
-  abbrev sums_of : ℕ → Reading (List Shard) → Sums
+  abbrev pub sums_of : ℕ → Reading (List Shard) → Sums
   sums_of i y = event_sums true lanes (shards_events s.header i y.part)
 
   abbrev run_alone : ℕ → ℕ → Place → List ℕ → State Phase
@@ -81,6 +81,7 @@ module _ (lanes : Lanes) (s : Subject) where
     pub left : z.left ≡ y.left ++ more
 
   pub read_more : (n i : ℕ) (p : Place) (bytes more : List ℕ) (y : Reading (List Shard)) → shards_at lanes s n i p bytes ≡ Ok y → (z : Reading (List Shard)) × (shards_at lanes s n i p (bytes ++ more) ≡ Ok z) × IsMore i y z more
+  unfolding place_in sums_in
   read_more n i p bytes more y e =
       let move = step_to true lanes s.elf s.input s.header s.output ShardsAlone in
       let is = extents_are_streams true lanes s.elf s.input s.header s.output ShardsAlone in
@@ -89,12 +90,15 @@ module _ (lanes : Lanes) (s : Subject) where
       let on : run_alone n i p (bytes ++ more) ≡ Ok (end, y.left ++ more) = ends_behind move is (Shards n i p no_sums) end bytes more y.left (λ zs. refl) here in
       let found = bind_ok (shards_at lanes s n i p (bytes ++ more)) (λ x. Ok (ends_at n i x)) (end, y.left ++ more) (sym (alone_is_read n i p (bytes ++ more)) ∙ on) in
       let z = found.0 in
-      let same : ends_at n i z ≡ (end, y.left ++ more) = ok_is (ends_at n i z) (end, y.left ++ more) found.2 in
-      (z, found.1, record {
-        place = ap (λ (x : Phase × List ℕ). place_in x.0) same;
-        sums = ap (λ (x : Phase × List ℕ). sums_in x.0) same;
-        left = ap (λ (x : Phase × List ℕ). x.1) same;
-      })
+      let same : ends_at n i z ≡ (end, y.left ++ more) = ok_is (ends_at n i z) (end, y.left ++ more) found.2 in (
+        z,
+        found.1,
+        record {
+          place = ap (λ (x : Phase × List ℕ). place_in x.0) same;
+          sums = ap (λ (x : Phase × List ℕ). sums_in x.0) same;
+          left = ap (λ (x : Phase × List ℕ). x.1) same;
+        },
+      )
 
   pub refused_more : (n i : ℕ) (p : Place) (bytes more : List ℕ) (r : Refusal) → shards_at lanes s n i p bytes ≡ Err r → ¬ (r.rule ≡ 1) → shards_at lanes s n i p (bytes ++ more) ≡ Err r
   refused_more n i p bytes more r e not =
@@ -111,14 +115,16 @@ module _ (lanes : Lanes) (s : Subject) where
   abbrev on_behind : ℕ → ℕ → List Event → Reading (List Shard) → State Phase
   on_behind m j es y = on_from m j y.place es y.left
 
-  pub many_shards : (n m i : ℕ) (es : List Event) (p : Place) (bytes : List ℕ)
-      → on_from (n + m) i p es bytes ≡ (shards_at lanes s n i p bytes >>= λ y. on_from m (i + n) y.place (es ++ shards_events s.header i y.part) y.left)
+  pub many_shards : (n m total i : ℕ) (es : List Event) (p : Place) (bytes : List ℕ) → total ≡ n + m
+      → on_from total i p es bytes ≡ (shards_at lanes s n i p bytes >>= λ y. on_from m (i + n) y.place (es ++ shards_events s.header i y.part) y.left)
   unfolding read_shards
-  many_shards zero m i es p bytes =
+  many_shards zero m total i es p bytes count =
+      let left : total ≡ m = omega (arith, count) in
       let number : i ≡ i + 0 = omega arith in
       let none = sym (append-nil es) in
-      (λ t. on_from m (number t) p (none t) bytes)
-  many_shards (suc n) m i es p bytes =
+      (λ t. on_from (left t) (number t) p (none t) bytes)
+  many_shards (suc n) m total i es p bytes count =
+      let left : total ≡ suc (n + m) = omega (arith, count) in
       let read = shard_read lanes s.elf s.input s.header s.output i p bytes in
       let own : Reading Shard → List Event = λ x. shard_events lanes s.elf s.input s.header s.output i x in
       let others : Reading Shard → Result (Reading (List Shard)) Refusal = λ x. shards_at lanes s n (i + 1) x.place x.left in
@@ -130,9 +136,10 @@ module _ (lanes : Lanes) (s : Subject) where
       let list = append_assoc es (own x) (shards_events s.header (i + 1) o.part) in
       λ t. on_from m (number t) o.place (list t) o.left in
       let inner : (x : Reading Shard) → on_from (n + m) (i + 1) x.place (es ++ own x) x.left ≡ ((others x >>= λ o. Ok (put x o)) >>= end) = λ x.
-      many_shards n m (i + 1) (es ++ own x) x.place x.left
+      many_shards n m (n + m) (i + 1) (es ++ own x) x.place x.left refl
       ∙ bind_same (others x) (end_next x) (λ o. end (put x o)) (same x)
       ∙ sym (bind_assoc (others x) (λ o. Ok (put x o)) end) in
-      one_shard lanes s.elf s.input s.header s.output (n + m) i es p bytes
+      ap (λ k. on_from k i p es bytes) left
+      ∙ one_shard lanes s.elf s.input s.header s.output (n + m) i es p bytes
       ∙ bind_same read (λ x. on_from (n + m) (i + 1) x.place (es ++ own x) x.left) (λ x. (others x >>= λ o. Ok (put x o)) >>= end) inner
       ∙ sym (bind_assoc read (λ x. others x >>= λ o. Ok (put x o)) end)

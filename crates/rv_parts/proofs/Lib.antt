@@ -7,3 +7,4 @@ pub mod ShardsSeen
 pub mod SummaryLaws
 pub mod CombineLaws
 pub mod Continuing
+pub mod JoinLaws

@@ -134,3 +134,20 @@ module _ (lanes : Lanes) (s : Subject) where
   pub was_read : (i : ℕ) (es : List Event) (a : After) (o : Result (Reading (List Shard)) Refusal) → after_all i es o ≡ Ok a → (y : Reading (List Shard)) × (o ≡ Ok y) × (after_of i es y ≡ a)
   was_read i es a (Ok y) e = (y, refl, ok_is (after_of i es y) a e)
   was_read i es a (Err t) e = absurd cc
+
+  -- shards that were read at a place leave a place
+  pub stands_through : (n i : ℕ) (p : Place) (bytes : List ℕ) (y : Reading (List Shard)) → IsPlace p s.input s.output → shards_at lanes s n i p bytes ≡ Ok y → IsPlace y.place s.input s.output
+  unfolding read_shards
+  stands_through zero i p bytes y is e =
+      let none : Reading (List Shard) = record { part = []; place = p; left = bytes } in
+      subst (λ (z : Reading (List Shard)). IsPlace z.place s.input s.output) (ok_is none y e) is
+  stands_through (suc n) i p bytes y is e =
+      let put : Reading Shard → Reading (List Shard) → Reading (List Shard) = λ x o. record { part = x.part ∷ o.part; place = o.place; left = o.left } in
+      let a = bind_ok (read_at i p bytes) (λ x. shards_at lanes s n (i + 1) x.place x.left >>= λ o. Ok (put x o)) y e in
+      let b = bind_ok (shards_at lanes s n (i + 1) a.0.place a.0.left) (λ o. Ok (put a.0 o)) y a.2 in
+      subst (λ (z : Reading (List Shard)). IsPlace z.place s.input s.output) (ok_is (put a.0 b.0) y b.2) (stands_through n (i + 1) a.0.place a.0.left b.0 (stands_behind i p bytes a.0 is a.1) b.1)
+
+  -- what states the place before it is read alone as it is read there
+  pub all_alone_is : (n i : ℕ) (p : Place) (bytes : List ℕ) → 32 ≤ length bytes → stated bytes ≡ p → IsPlace p s.input s.output → shards_alone lanes s n i bytes ≡ shards_at lanes s n i p bytes
+  all_alone_is n i p bytes le there is =
+      ap (λ (o : Result (List ℕ) Refusal). o >>= shards_at lanes s n i (stated bytes)) (opens_at i p bytes le there is) ∙ ap (λ q. shards_at lanes s n i q bytes) there

@@ -3,3 +3,4 @@ pub mod Cutting
 pub mod Alone
 pub mod Summaries
 pub mod Combining
+pub mod Joining
