@@ -8,3 +8,4 @@ pub mod SummaryLaws
 pub mod CombineLaws
 pub mod Continuing
 pub mod JoinLaws
+pub mod HeadsOfParts

@@ -1,5 +1,5 @@
 -- The verdict by the summaries of parts without a fault is the verdict on the file that they make (this project's own).
-use Rattle.std.specs.Prelude.{◌≡◌, ◌≤◌, ℕ, ◌+◌, true, List, [], ◌∷◌, length, map, drop, None, Ok}
+use Rattle.std.specs.Prelude.{◌≡◌, ◌≤◌, ◌<◌, ℕ, ◌+◌, true, List, [], ◌∷◌, length, map, drop, None, Ok}
 use Rattle.rv_base.specs.declared.layout.TheConstants.{HEADER_BYTES}
 use Rattle.rv_base.specs.declared.record.Header.{Header}
 use Rattle.rv_spec.specs.Digest.{Lanes}
@@ -13,7 +13,7 @@ use Rattle.rv_judge.specs.Subject.{Subject}
 use Rattle.rv_parts.specs.declared.heads.PartHead.{PartHead}
 use Rattle.rv_parts.specs.declared.summaries.Summary.{Summary}
 use Rattle.rv_parts.specs.Combining.{combined}
-use Rattle.rv_parts.specs.Cutting.{whole}
+use Rattle.rv_parts.specs.Cutting.{first_of, head_of_part, whole}
 use Rattle.rv_parts.specs.Summaries.{Summarizes}
 
 -- a part, behind its front
@@ -45,3 +45,10 @@ SummariesTellVerdict = (lanes : Lanes) (elf input front : List ℕ) (parts : Lis
     → AreBytes elf → first_fault elf ≡ None → IsFront front → unless_broken 0 0 (header_checks true lanes elf input front) (header_of front) ≡ Ok (header_of front)
     → AreFaultless lanes (behind_front elf input front) (length parts) 0 0 parts xs
     → combined elf input (header_of front) xs ≡ verdict lanes elf input (whole front (map (λ p. p.body) parts))
+
+-- Cut into no more parts than there are shards, the heads of the parts number them, each has a shard at least, the first begins at the first shard, each other where the one before it ends, and the last ends behind the last shard.
+abbrev pub HeadsCover : Type 0
+HeadsCover = (n parts : ℕ) → 1 ≤ parts → parts ≤ n
+    → (first_of n parts 0 ≡ 0)
+    × ((p : ℕ) → p < parts → IsHeadAt parts p (first_of n parts p) (head_of_part n parts p) × (first_of n parts p + (head_of_part n parts p).count ≡ first_of n parts (p + 1)))
+    × (first_of n parts parts ≡ n)

@@ -14,5 +14,5 @@ mod walking;
 pub use combining::combine;
 pub use cutting::{PARTS_LIMIT, PartCut, part_cut};
 pub use heads::{PART_HEAD_BYTES, PartHead, read_part};
-pub use laws::{parts_are_the_file, summaries_tell_the_verdict};
+pub use laws::{heads_cover, parts_are_the_file, summaries_tell_the_verdict};
 pub use summaries::{Cut, Summary, summarize};

@@ -1,7 +1,6 @@
 //! A worked record in two parts.
 
-ghost use Rattle.std.specs.Prelude.{◌≡◌, length};
-ghost use Rattle.rv_judge.specs.Subject.{IsChecked};
+ghost use Rattle.std.specs.Prelude.{◌+◌, ◌≤◌};
 
 mod worked;
 
@@ -58,7 +57,11 @@ fn heads_of_parts(rt: HostRuntime) -> Result<(), Fail> {
 }
 
 /// The two heads, as numbers.
-fn head_of(number: u32) -> PartHead {
+fn head_of(number: u32) -> PartHead
+    requires { number ≤ 1 }
+    ensures some { 1 ≤ result.count }
+    ensures within { result.first + result.count ≤ 3 }
+{
     PartHead {
         number,
         parts: 2,
@@ -75,10 +78,10 @@ fn summary_of(
     body: &[u8],
 ) -> Result<Result<Summary, Cut>, Fail> {
     let header = check_front(program, file)?;
-    let head = head_of(number);
     if header.length != 0 || number > 1 || header.shards < 3 {
         return Err("another record".into());
     }
+    let head = head_of(number);
     Ok(summarize(program, &header, &[], head, body, &ShaLanes))
 }
 
