@@ -1,13 +1,12 @@
 -- The bodies of all parts, one after another.
-use Rattle.std.proofs.Common.{◌≡◌, ℕ, zero, suc, ◌+◌, ◌-◌, ◌<◌, ◌≤◌, Bool, true, false, cond, ◌==◌, List, [], ◌∷◌, ◌++◌, length, map, take, drop, refl, sym, ap, ◌∙◌, append_assoc, arith}
+use Rattle.std.proofs.Common.{◌≡◌, ℕ, zero, suc, ◌+◌, ◌<◌, ◌≤◌, false, ◌==◌, List, [], ◌∷◌, ◌++◌, length, map, take, drop, refl, sym, ap, ◌∙◌, append_assoc, arith}
 use Rattle.std.specs.Prelude.{if◌then◌else◌}
 use Rattle.std.specs.List.{concat, flat_map, range_with_len}
 use Rattle.std.proofs.lemmas.Bool.{eq-eqb, eqb-true, false_from_ne_true}
-use Rattle.std.proofs.lemmas.List.{append-nil, drop-drop, length-drop, take_all, take-append-drop}
+use Rattle.std.proofs.lemmas.List.{append-nil, drop-drop, take-append-drop}
 use Rattle.std.proofs.lemmas.Grind.{flat_map-append}
-use Rattle.rv_spec.specs.Record.{Shard, Parts, header_bytes, shard_bytes, table_bytes, file_bytes}
-use Rattle.rv_spec.specs.Grammar.{Spells}
-use Rattle.rv_parts.specs.Cutting.{PartsAreFile, bodies_of, body_of, count_of, first_of, front_of}
+use Rattle.rv_spec.specs.Record.{Shard, Parts, shard_bytes, table_bytes, file_bytes}
+use Rattle.rv_parts.specs.Cutting.{PartsAreFile, body_of, count_of, first_of, front_of}
 use Rattle.rv_parts.proofs.Bounds.{first_end, first_rises, first_zero}
 
 module _ (q : Parts) (parts : ℕ) (some : 1 ≤ parts) where

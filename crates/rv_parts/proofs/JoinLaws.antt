@@ -1,8 +1,8 @@
 -- The summaries of parts without a fault tell the verdict on the file that they make.
-use Rattle.std.proofs.Common.{◌≡◌, ℕ, zero, suc, ◌+◌, ◌-◌, ◌<◌, ◌≤◌, Bool, true, false, not, ◌&&◌, ◌==◌, leb, List, [], ◌∷◌, ◌++◌, length, map, drop, inl, inr, ◌⊎◌, Option, None, Some, Result, Ok, Err, refl, sym, ap, subst, ◌∙◌, append_assoc, arith}
-use Rattle.std.specs.Prelude.{MatchResult, nat_le, bytes_eq, replicate, if◌then◌else◌}
+use Rattle.std.proofs.Common.{◌≡◌, ℕ, suc, ◌+◌, ◌-◌, ◌<◌, ◌≤◌, Bool, true, false, not, ◌&&◌, ◌==◌, List, [], ◌∷◌, ◌++◌, length, map, drop, inl, inr, ◌⊎◌, Option, None, Some, Result, Ok, Err, refl, sym, ap, subst, ◌∙◌, append_assoc, arith}
+use Rattle.std.specs.Prelude.{MatchResult, bytes_eq, replicate, if◌then◌else◌}
 use Rattle.std.specs.List.{concat}
-use Rattle.std.proofs.lemmas.Bool.{eq-eqb, eqb-true, eqb-false, false_from_ne_true, le-leb, lt-leb, leb-true, cases_lt}
+use Rattle.std.proofs.lemmas.Bool.{eq-eqb, eqb-true, eqb-false, false_from_ne_true, le-leb, lt-leb, cases_lt}
 use Rattle.std.proofs.lemmas.List.{append-nil, length-append, map-append, nil_from_length}
 use Rattle.rv_base.specs.declared.record.Header.{Header}
 use Rattle.rv_base.specs.declared.record.Place.{Place}
@@ -15,13 +15,12 @@ use Rattle.rv_base.specs.declared.record.Verdict.TheVariants.{Refuse}
 use Rattle.rv_spec.specs.Digest.{Lanes, digest, digest_lane}
 use Rattle.rv_spec.specs.Record.{Shard}
 use Rattle.rv_spec.specs.Tuples.{Event, tuple_last, tuple_read, tuple_written}
-use Rattle.rv_spec.specs.Words.{u32_at}
 use Rattle.rv_rules.specs.Checks.{unless_broken, ◌>>=◌}
 use Rattle.rv_rules.specs.Reading.{Reading, first_place, head_of, header_checks, header_of, same_place}
 use Rattle.rv_rules.specs.Sums.{add_lanes}
 use Rattle.rv_rules.proofs.Lemmas.{digest-append}
-use Rattle.rv_reading.specs.Machine.{Phase, Sums, event_sums, first_phase, first_tuple, no_sums, opened, step, shards_events, told, told as told_of}
-use Rattle.rv_reading.specs.Stream.{State, outcome}
+use Rattle.rv_reading.specs.Machine.{Sums, event_sums, first_phase, first_tuple, no_sums, opened, step, shards_events, told, told as told_of}
+use Rattle.rv_reading.specs.Stream.{outcome}
 use Rattle.rv_reading.specs.Machine.Phase.{Shards}
 use Rattle.rv_reading.specs.Machine.Extent.{WholeFile}
 use Rattle.rv_reading.specs.Parts.{runs}
@@ -35,20 +34,19 @@ use Rattle.rv_reading.proofs.Fronts.{head_front}
 use Rattle.rv_rowcheck.specs.RowChecking.{IsPlace}
 use Rattle.rv_file.proofs.Lemmas.{unless_holds, unless_ok}
 use Rattle.rv_judge.specs.Subject.{Subject}
-use Rattle.rv_judge.specs.Alone.{can_stand, ended, read_table, stated}
+use Rattle.rv_judge.specs.Alone.{can_stand, read_table, stated}
 use Rattle.rv_panel.specs.Chaining.{verdict_from}
 use Rattle.rv_panel.proofs.ShardSteps.{displaced, from, no_head, place_stated, refuses}
 use Rattle.rv_panel.proofs.TableSteps.{table_refused, table_taken}
-use Rattle.rv_parts.specs.declared.heads.PartHead.{PartHead}
 use Rattle.rv_parts.specs.declared.summaries.Summary.{Summary}
 use Rattle.rv_parts.specs.Alone.{shards_alone, shards_at}
 use Rattle.rv_parts.specs.Combining.{are_same, combined, combined_from, refused_at}
-use Rattle.rv_parts.specs.Joining.{AreFaultless, IsHeadAt, Part, SummariesTellVerdict, behind_front}
+use Rattle.rv_parts.specs.Joining.{AreFaultless, Part, SummariesTellVerdict, behind_front}
 use Rattle.rv_parts.specs.Cutting.{whole}
-use Rattle.rv_parts.specs.Summaries.{IsSummary, Told, ends_elsewhere, is_cut, is_last, place_before, shards_and_table_tell, shards_tell, tells, told_in}
+use Rattle.rv_parts.specs.Summaries.{Told, ends_elsewhere, is_last, place_before, shards_and_table_tell, shards_tell, told_in}
 use Rattle.rv_parts.proofs.CombineLaws.{no_part, part_goes, part_refused}
-use Rattle.rv_parts.proofs.Continuing.{IsMore, many_shards, read_more, refused_more, sums_of}
-use Rattle.rv_parts.proofs.ShardsFollow.{all_alone_is, opening, stands_through}
+use Rattle.rv_parts.proofs.Continuing.{many_shards, read_more, refused_more}
+use Rattle.rv_parts.proofs.ShardsFollow.{all_alone_is, stands_through}
 
 -- ---- the answer on a part
 

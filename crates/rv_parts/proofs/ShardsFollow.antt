@@ -1,13 +1,13 @@
 -- Shards that are judged from the place behind the shard before them.
-use Rattle.std.proofs.Common.{◌≡◌, ℕ, zero, suc, ◌+◌, ◌-◌, ◌*◌, ◌<◌, ◌≤◌, ◌%◌, Bool, true, false, ◌&&◌, ◌==◌, List, [], ◌∷◌, ◌++◌, length, drop, map, None, Some, Result, Ok, Err, refl, sym, ap, subst, ◌∙◌, append_assoc, arith}
+use Rattle.std.proofs.Common.{◌≡◌, ℕ, zero, suc, ◌+◌, ◌*◌, ◌≤◌, ◌%◌, true, ◌&&◌, ◌==◌, List, [], ◌∷◌, ◌++◌, length, Result, Ok, Err, refl, sym, ap, subst, ◌∙◌, append_assoc}
 use Rattle.std.specs.Prelude.{nat_le}
 use Rattle.std.proofs.lemmas.Bool.{le-leb, leb-true, eq-eqb, eqb-true, and_from, and_parts}
 use Rattle.std.proofs.lemmas.List.{append-nil}
 use Rattle.rv_base.specs.declared.record.Place.{Place}
 use Rattle.rv_base.specs.declared.record.Refusal.{Refusal}
-use Rattle.rv_spec.specs.Digest.{Lanes, digest}
+use Rattle.rv_spec.specs.Digest.{Lanes}
 use Rattle.rv_spec.specs.Record.{Shard}
-use Rattle.rv_spec.specs.Tuples.{Event, events, tuple_read, tuple_written}
+use Rattle.rv_spec.specs.Tuples.{Event, events}
 use Rattle.rv_rules.specs.Checks.{Check, unless_broken, ◌>>=◌}
 use Rattle.rv_rules.specs.Reading.{Reading, head_of, same_place, read_shards}
 use Rattle.rv_reading.specs.Machine.{shards_events}

@@ -1,5 +1,5 @@
 -- Shards that the code saw, by the definitions.
-use Rattle.std.proofs.Common.{◌≡◌, ℕ, suc, ◌+◌, ◌-◌, ◌<◌, ◌≤◌, true, List, [], ◌++◌, length, drop, map, Result, Ok, Err, sym, ap, subst, ◌∙◌, arith}
+use Rattle.std.proofs.Common.{◌≡◌, ℕ, suc, ◌+◌, ◌-◌, ◌≤◌, true, List, [], ◌++◌, length, drop, map, Result, Ok, Err, sym, ap, subst, ◌∙◌, arith}
 use Rattle.rv_base.specs.declared.record.Place.{Place}
 use Rattle.rv_base.specs.declared.record.Refusal.{Refusal}
 use Rattle.rv_base.specs.declared.record.Tuple.{Tuple}
@@ -12,10 +12,10 @@ use Rattle.rv_rules.specs.Checks.{◌>>=◌}
 use Rattle.rv_rowcheck.specs.RowChecking.{IsPlace}
 use Rattle.rv_judge.specs.declared.alone.ShardSeen.{ShardSeen}
 use Rattle.rv_judge.specs.Subject.{Subject}
-use Rattle.rv_judge.specs.Alone.{IsShardSeen, SeesShard, read_alone}
+use Rattle.rv_judge.specs.Alone.{SeesShard, read_alone}
 use Rattle.rv_parts.specs.declared.shards.ShardsSeen.{ShardsSeen}
-use Rattle.rv_parts.specs.Alone.{AreShardsSeen, SeesShardAt, SeesShards, shards_alone}
-use Rattle.rv_parts.proofs.ShardsFollow.{After, after_all, after_of, alone_is, first_alone, follow, goes_on, goes_on_alone, none_follow, read_at, read_there, refuses, shard_events, stands_behind, was_read, was_refused}
+use Rattle.rv_parts.specs.Alone.{SeesShardAt, SeesShards, shards_alone}
+use Rattle.rv_parts.proofs.ShardsFollow.{After, after_all, alone_is, first_alone, follow, goes_on, goes_on_alone, none_follow, read_at, read_there, refuses, shard_events, stands_behind, was_read, was_refused}
 
 module _ (lanes : Lanes) (s : Subject) where
   sees_by : (i : ℕ) (p : Place) (bytes : List ℕ) (o : Result ShardSeen Refusal) → read_alone lanes s i bytes ≡ read_at lanes s i p bytes → SeesShard lanes s i bytes o → SeesShardAt lanes s i p bytes o

@@ -1,16 +1,15 @@
 -- What the code makes of a part is its summary.
-use Rattle.std.proofs.Common.{◌≡◌, ℕ, ◌+◌, ◌-◌, ◌<◌, ◌≤◌, Bool, true, false, not, ◌&&◌, ◌==◌, List, [], ◌++◌, length, drop, map, Option, None, Some, Result, Ok, Err, refl, sym, ap, subst, ◌∙◌, arith}
+use Rattle.std.proofs.Common.{◌≡◌, ℕ, ◌-◌, ◌<◌, ◌≤◌, Bool, true, false, not, ◌&&◌, ◌==◌, List, ◌++◌, length, map, None, Some, Result, Ok, Err, refl, sym, ap, subst, ◌∙◌, arith}
 use Rattle.std.specs.Prelude.{MatchResult, nat_lt, if◌then◌else◌}
 use Rattle.std.proofs.lemmas.Bool.{ltb-true, ltb-false, eq-eqb, false_from_ne_true, eqb-true}
 use Rattle.std.proofs.lemmas.List.{length-drop}
 use Rattle.rv_base.specs.declared.record.Header.{Header}
-use Rattle.rv_base.specs.declared.record.Place.{Place}
 use Rattle.rv_base.specs.declared.record.Refusal.{Refusal}
 use Rattle.rv_base.specs.declared.record.TableEntry.{TableEntry}
 use Rattle.rv_base.specs.declared.record.Tuple.{Tuple}
 use Rattle.rv_spec.specs.Digest.{Lanes, digest}
 use Rattle.rv_spec.specs.Record.{Shard}
-use Rattle.rv_spec.specs.Tuples.{Event, tuple_last, tuple_read, tuple_written}
+use Rattle.rv_spec.specs.Tuples.{tuple_last, tuple_read, tuple_written}
 use Rattle.rv_spec.specs.Words.{u32_at}
 use Rattle.rv_rules.specs.Checks.{◌>>=◌}
 use Rattle.rv_rules.specs.Reading.{Reading}
@@ -20,10 +19,9 @@ use Rattle.rv_judge.specs.Subject.{Subject}
 use Rattle.rv_judge.specs.Alone.{SeesTable, read_table}
 use Rattle.rv_parts.specs.declared.heads.PartHead.{PartHead}
 use Rattle.rv_parts.specs.declared.shards.ShardsSeen.{ShardsSeen}
-use Rattle.rv_parts.specs.declared.summaries.Cut.{Cut}
 use Rattle.rv_parts.specs.declared.summaries.Summary.{Summary}
 use Rattle.rv_parts.specs.Alone.{AreShardsSeen, shards_alone}
-use Rattle.rv_parts.specs.Summaries.{AddsTable, IsOfPart, IsSamePart, IsSummary, Summarizes, Told, ends_elsewhere, is_cut, is_last, place_before, shards_and_table_tell, shards_tell, tells, told_in}
+use Rattle.rv_parts.specs.Summaries.{AddsTable, IsOfPart, IsSamePart, Summarizes, Told, ends_elsewhere, is_cut, is_last, place_before, shards_and_table_tell, shards_tell, tells, told_in}
 
 -- a byte follows the table where it used fewer than all bytes
 bytes_follow : (used size left : ℕ) → left ≡ size - used → nat_lt used size ≡ not (left == 0)

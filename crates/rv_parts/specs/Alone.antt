@@ -1,5 +1,5 @@
 -- The shards of a part, judged alone.
-use Rattle.std.specs.Prelude.{◌≡◌, ℕ, true, List, [], ◌∷◌, ◌++◌, length, map, Result, Ok, Err, nat_le}
+use Rattle.std.specs.Prelude.{◌≡◌, ℕ, true, List, [], ◌∷◌, length, map, Result, Ok, Err, nat_le}
 use Rattle.rv_base.specs.declared.layout.TheConstants.{HEAD_BYTES}
 use Rattle.rv_base.specs.declared.record.Header.{Header}
 use Rattle.rv_base.specs.declared.record.Place.{Place}

@@ -1,24 +1,15 @@
 -- The verdict on parts, by their summaries (this project's own).
-use Rattle.std.specs.Prelude.{◌≡◌, ◌≤◌, ℕ, ◌+◌, Bool, true, false, ◌&&◌, ◌==◌, List, [], ◌∷◌, length, map, drop, replicate, Option, Some, None, Ok, if◌then◌else◌}
-use Rattle.rv_base.specs.declared.layout.TheConstants.{HEADER_BYTES}
+use Rattle.std.specs.Prelude.{ℕ, Bool, true, false, ◌&&◌, ◌==◌, List, [], ◌∷◌, replicate, Option, Some, None, if◌then◌else◌}
 use Rattle.rv_base.specs.declared.record.Header.{Header}
 use Rattle.rv_base.specs.declared.record.Place.{Place}
 use Rattle.rv_base.specs.declared.record.Refusal.{Refusal}
 use Rattle.rv_base.specs.declared.record.Verdict.{Verdict}
 use Rattle.rv_base.specs.declared.record.Verdict.TheVariants.{Refuse}
 use Rattle.rv_base.specs.declared.rules.TheConstants.{SHORT, SHARD_HEAD}
-use Rattle.rv_spec.specs.Digest.{Lanes}
-use Rattle.rv_rules.specs.Checks.{unless_broken}
-use Rattle.rv_rules.specs.Reading.{first_place, header_checks, header_of}
+use Rattle.rv_rules.specs.Reading.{first_place}
 use Rattle.rv_rules.specs.Sums.{add_lanes, tiny_lanes}
-use Rattle.rv_rules.specs.Verdict.{verdict}
-use Rattle.rv_reading.specs.Judging.{IsFront}
 use Rattle.rv_judge.specs.Alone.{ended}
-use Rattle.rv_judge.specs.Subject.{Subject}
-use Rattle.rv_parts.specs.declared.heads.PartHead.{PartHead}
 use Rattle.rv_parts.specs.declared.summaries.Summary.{Summary}
-use Rattle.rv_parts.specs.Cutting.{whole}
-use Rattle.rv_parts.specs.Summaries.{Summarizes}
 
 abbrev pub are_same : Place → Place → Bool
 are_same p q = p.pc == q.pc && p.input == q.input && p.output == q.output

@@ -1,5 +1,5 @@
 -- The head of a part (this project's own).
-use Rattle.std.specs.Prelude.{ℕ, ◌&&◌, List, [], ◌∷◌, ◌++◌, length, take, Bool, Option, Some, None, bytes_eq, nat_le, if◌then◌else◌}
+use Rattle.std.specs.Prelude.{ℕ, ◌&&◌, List, [], ◌∷◌, ◌++◌, length, take, Option, Some, None, bytes_eq, nat_le, if◌then◌else◌}
 use Rattle.std.specs.Int.{w32, to_le_bytes}
 use Rattle.rv_spec.specs.Words.{u32_at}
 use Rattle.rv_parts.specs.declared.heads.TheConstants.{PART_HEAD_BYTES}

@@ -1,7 +1,6 @@
 -- The verdict by the summaries of parts without a fault is the verdict on the file that they make (this project's own).
 use Rattle.std.specs.Prelude.{◌≡◌, ◌≤◌, ◌<◌, ℕ, ◌+◌, true, List, [], ◌∷◌, length, map, drop, None, Ok}
 use Rattle.rv_base.specs.declared.layout.TheConstants.{HEADER_BYTES}
-use Rattle.rv_base.specs.declared.record.Header.{Header}
 use Rattle.rv_spec.specs.Digest.{Lanes}
 use Rattle.rv_spec.specs.Elf.{first_fault}
 use Rattle.rv_spec.specs.Words.{AreBytes}

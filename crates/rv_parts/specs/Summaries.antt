@@ -9,7 +9,7 @@ use Rattle.rv_base.specs.declared.rules.TheConstants.{SHORT}
 use Rattle.rv_base.specs.declared.record.Tuple.{Tuple}
 use Rattle.rv_spec.specs.Digest.{Lanes, digest}
 use Rattle.rv_spec.specs.Record.{Shard}
-use Rattle.rv_spec.specs.Tuples.{Event, tuple_last, tuple_read, tuple_written}
+use Rattle.rv_spec.specs.Tuples.{tuple_last, tuple_read, tuple_written}
 use Rattle.rv_spec.specs.Words.{u32_at}
 use Rattle.rv_rules.specs.Checks.{◌>>=◌}
 use Rattle.rv_rules.specs.Reading.{Reading}

@@ -1,4 +1,4 @@
-use Rattle.std.proofs.Common.{◌≡◌, ◌∙◌, sym}
+use Rattle.std.proofs.Common.{◌∙◌, sym}
 use Rattle.rv_parts.proofs.CombineLaws.{end_here, goes_here, refused_here}
 use Rattle.rv_parts.proofs.combining.combine.Goals as goal
 

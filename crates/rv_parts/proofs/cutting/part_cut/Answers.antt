@@ -1,4 +1,4 @@
-use Rattle.std.proofs.Common.{◌≡◌, ◌∙◌, ◌+◌, ◌-◌, ◌<◌, ◌≤◌, ℕ, List, length, take, drop, Bor, refl, sym, ap, subst, arith}
+use Rattle.std.proofs.Common.{◌≡◌, ◌∙◌, ◌+◌, ◌-◌, ℕ, List, length, take, drop, Bor, sym, ap, subst, arith}
 use Rattle.rv_base.specs.declared.record.Header.{Header}
 use Rattle.rv_rules.proofs.Lemmas.{bytes-are}
 use Rattle.rv_file.specs.Parsing.{HoldsShards, behind_shards}

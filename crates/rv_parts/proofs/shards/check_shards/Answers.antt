@@ -1,6 +1,6 @@
-use Rattle.std.proofs.Common.{◌≡◌, ◌+◌, ◌-◌, ◌<◌, ◌≤◌, ℕ, suc, map, sym, subst, arith}
+use Rattle.std.proofs.Common.{◌≡◌, ◌+◌, ◌-◌, ℕ, suc, map, subst, arith}
 use Rattle.std.proofs.lemmas.Result.{err_from_is_err_and}
-use Rattle.rv_spec.specs.Tuples.{Event, tuple_read, tuple_written}
+use Rattle.rv_spec.specs.Tuples.{tuple_read, tuple_written}
 use Rattle.rv_panel.proofs.PanelLaws.{shards_within}
 use Rattle.rv_parts.specs.declared.shards.ShardsSeen.{ShardsSeen}
 use Rattle.rv_parts.specs.Alone.{subject_of}

@@ -1,4 +1,4 @@
-use Rattle.std.proofs.Common.{◌≡◌, Some, None, length, refl}
+use Rattle.std.proofs.Common.{Some, None, length, refl}
 use Rattle.std.specs.Prelude.{nat_lt}
 use Rattle.rv_parts.specs.declared.summaries.Summary.{Summary}
 use Rattle.rv_parts.proofs.SummaryLaws.{table_added, table_refused}
