@@ -40,16 +40,13 @@ runs_in_qemu() { # ELF INPUT OUTPUT CODE
 }
 
 records() { # ELF INPUT OUTPUT CODE
-    local line
+    local workers line
     line=$("$tool" make "$1" "$2" "$made/record" 1 4096 8388608)
-    if [ "$line" = "fault notbuilt" ]; then
-        [ "$told" = yes ] || echo "guide: records can't be made yet"
-        told=yes
-        return
-    fi
     [ "$(without_steps "$line")" = "made end=0 code=$4" ] || differs "make $1 $2: $line"
-    line=$("$tool" check "$1" "$2" "$made/record" 1)
-    [ "$(without_steps "$line")" = "accepted end=0 code=$4" ] || differs "check $1 $2: $line"
+    for workers in 1 4; do
+        line=$("$tool" check "$1" "$2" "$made/record" "$workers")
+        [ "$(without_steps "$line")" = "accepted end=0 code=$4" ] || differs "check $1 $2 by $workers: $line"
+    done
 }
 
 compares() { # FOLDER
@@ -102,7 +99,6 @@ fi
 qemu=yes
 type qemu-riscv32 >/dev/null 2>&1 || qemu=no
 [ "$qemu" = yes ] || echo "guide: no qemu-riscv32 to compare with"
-told=no
 made=$(mktemp -d)
 compares "$shipped"
 builds gcc make riscv64-unknown-elf-gcc

@@ -29,6 +29,10 @@ module _ (file : List ℕ) where
   pub fault-2 : IsClear 1 file → has_magic file ≡ false → first_fault file ≡ Some 2
   fault-2 c e = fault_is file 1 c (ap not e)
 
+  -- the first two tests together
+  pub whole_magic : 52 ≤ length file → has_magic file ≡ true → IsClear 2 file
+  whole_magic h e = clear-2 (clear-1 h) e
+
   pub clear-3 : IsClear 2 file → slice_index file 4 ≡ 1 → IsClear 3 file
   clear-3 c e = clear_more file 2 c (same (slice_index file 4) 1 e)
 
@@ -40,6 +44,10 @@ module _ (file : List ℕ) where
 
   pub fault-4 : IsClear 3 file → (slice_index file 5 ≡ 1 → ⊥) → first_fault file ≡ Some 4
   fault-4 c e = fault_is file 3 c (other (slice_index file 5) 1 e)
+
+  -- the first four tests together
+  pub little_words : 52 ≤ length file → has_magic file ≡ true → slice_index file 4 ≡ 1 → slice_index file 5 ≡ 1 → IsClear 4 file
+  little_words h e class order = clear-4 (clear-3 (whole_magic h e) class) order
 
   pub clear-5 : IsClear 4 file → slice_index file 6 ≡ 1 → u32_at file 20 ≡ 1 → IsClear 5 file
   clear-5 c e f = clear_more file 4 c (ap not (and_from (slice_index file 6 == 1) (u32_at file 20 == 1) (eq-eqb (slice_index file 6) 1 e) (eq-eqb (u32_at file 20) 1 f)))
@@ -73,6 +81,14 @@ module _ (file : List ℕ) where
   pub fault-9 : IsClear 8 file → (table count : ℕ) → table ≡ headers_at file → count ≡ header_count file → length file < table + 32 * count → first_fault file ≡ Some 9
   fault-9 c table count e f h =
       fault_is file 8 c (ap (λ t. nat_lt (length file) (t + 32 * header_count file)) (sym e) ∙ ap (λ n. nat_lt (length file) (table + 32 * n)) (sym f) ∙ lt-ltb (length file) (table + 32 * count) h)
+
+  pub whole_identity : IsClear 5 file → 52 ≤ length file
+  unfolding IsClear
+  whole_identity c = ltb-false (length file) 52 c.0
+
+  pub whole_machine : IsClear 8 file → 52 ≤ length file
+  unfolding IsClear
+  whole_machine c = ltb-false (length file) 52 c.0
 
   pub whole_header : IsClear 9 file → 52 ≤ length file
   unfolding IsClear

@@ -39,6 +39,19 @@ fn check_header(file: &[u8]) -> Result<(), ElfFault>
     ensures clear { IfOk result (λ _. IsClear 9 file.now) }
     ensures fault { IfErr result (λ e. first_fault file.now ≡ Some (number_of e)) }
 {
+    check_identity(file)?;
+    check_machine(file)?;
+    if get32(file, 28) as usize + 32 * get16(file, 44) as usize > file.len() {
+        return Err(ElfFault::Headers);
+    }
+    Ok(())
+}
+
+/// The faults of the file's own bytes, those with the numbers 1 to 5: its size, magic, class, byte order and version.
+fn check_identity(file: &[u8]) -> Result<(), ElfFault>
+    ensures clear { IfOk result (λ _. IsClear 5 file.now) }
+    ensures fault { IfErr result (λ e. first_fault file.now ≡ Some (number_of e)) }
+{
     if file.len() < 52 {
         return Err(ElfFault::Short);
     }
@@ -54,6 +67,16 @@ fn check_header(file: &[u8]) -> Result<(), ElfFault>
     if file[6] != 1 || get32(file, 20) != 1 {
         return Err(ElfFault::Version);
     }
+    Ok(())
+}
+
+/// The faults of what the file is for, those with the numbers 6 to 8: its kind, its machine and the size of a program
+/// header.
+fn check_machine(file: &[u8]) -> Result<(), ElfFault>
+    requires { IsClear 5 file.now }
+    ensures clear { IfOk result (λ _. IsClear 8 file.now) }
+    ensures fault { IfErr result (λ e. first_fault file.now ≡ Some (number_of e)) }
+{
     if get16(file, 16) != 2 {
         return Err(ElfFault::Kind);
     }
@@ -62,9 +85,6 @@ fn check_header(file: &[u8]) -> Result<(), ElfFault>
     }
     if get16(file, 42) != 32 {
         return Err(ElfFault::HeaderSize);
-    }
-    if get32(file, 28) as usize + 32 * get16(file, 44) as usize > file.len() {
-        return Err(ElfFault::Headers);
     }
     Ok(())
 }

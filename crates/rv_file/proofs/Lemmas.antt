@@ -22,3 +22,5 @@ pub use Rattle.rv_file.proofs.FileLaws.{parse_is}
 pub use Rattle.rv_file.proofs.FileLaws.{is_parsed}
 -- the form of a file is good exactly where some parts spell it
 pub use Rattle.rv_file.proofs.FileLaws.{form_is_grammar}
+-- a shard that fits has a head in its ranges and the size that it states, and at the front of bytes its head is read again
+pub use Rattle.rv_file.proofs.Showing.{IsShard, is_shard, first_head}

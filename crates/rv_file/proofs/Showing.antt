@@ -105,7 +105,7 @@ pub record IsShard (s : Shard) : Type 0 where
   pub head : HeadFits s.head
   pub size : length (shard_bytes s) ≡ 288 + s.head.bytes
 
-is_shard : (h : Header) (i : ℕ) (s : Shard) → h.size ≤ 65536 → i < 2 ^ 32 → ShardFits h i s → IsShard s
+pub is_shard : (h : Header) (i : ℕ) (s : Shard) → h.size ≤ 65536 → i < 2 ^ 32 → ShardFits h i s → IsShard s
 unfolding shard_bytes
 is_shard h i s small within fits =
     let head = head_bytes s.head in
@@ -130,7 +130,7 @@ are_shards : (h : Header) (i : ℕ) (ss : List Shard) → h.size ≤ 65536 → i
 are_shards h i [] small within fits = tt
 are_shards h i (s ∷ ss) small within fits = (is_shard h i s small (omega arith) fits.0, are_shards h (i + 1) ss small (omega arith) fits.1)
 
-first_head : (s : Shard) (rest : List ℕ) → IsShard s → head_of (shard_bytes s ++ rest) ≡ s.head
+pub first_head : (s : Shard) (rest : List ℕ) → IsShard s → head_of (shard_bytes s ++ rest) ≡ s.head
 unfolding shard_bytes
 first_head s rest is =
     let rows = flat_map row_bytes s.rows in
@@ -205,6 +205,10 @@ output_room file h n shows =
 
 pub output_shown : (file : List ℕ) (h : Header) (n : ℕ) → RepresentsFile file h n → take h.length (drop 173 file) ≡ (parts_of file).output
 output_shown file h n shows = ap (λ k. take k (drop 173 file)) (same_header file h n shows) ∙ output_is (parts_of file) file shows.spells
+
+pub body_shown : (file : List ℕ) (h : Header) (n : ℕ) → RepresentsFile file h n
+    → drop (173 + h.length) file ≡ flat_map shard_bytes (parts_of file).shards ++ table_bytes (parts_of file).table
+body_shown file h n shows = ap (λ k. drop (173 + k) file) (same_header file h n shows) ∙ shards_are (parts_of file) file shows.spells
 
 -- entry j lies this far before the end
 pub entry_is : (file : List ℕ) (h : Header) (n j : ℕ) → RepresentsFile file h n → j < n → slice_get (parts_of file).table j ≡ Some (entry_of (drop (length file - 16 * (n - j)) file))

@@ -2,7 +2,7 @@
 
 ghost use Rattle.std.specs.Prelude.{◌≡◌, ◌+◌, ◌≤◌, ◌++◌, length, take, drop, slice_index, ◌==◌, if◌then◌else◌};
 ghost use Rattle.std.specs.Int.{IsInRange};
-ghost use Rattle.rv_spec.specs.Record.{magic, header_bytes};
+ghost use Rattle.rv_spec.specs.Record.{magic, header_bytes, shard_rows};
 ghost use Rattle.rv_rules.specs.Reading.{header_of};
 ghost use Rattle.rv_file.specs.Front.{with_numbers, is_record, header_in, front_length};
 
@@ -136,4 +136,12 @@ pub fn front_len(bytes: &[u8; HEADER_BYTES]) -> usize
     } else {
         HEADER_BYTES
     }
+}
+
+/// The number of rows of a shard, counted from 0: as many as a shard has, fewer in the last, and 0 behind it.
+pub fn rows_of(h: &Header, shard: u32) -> u32
+    ensures { result ≡ shard_rows h.now.size h.now.steps shard }
+{
+    let size = h.size as u64;
+    size.min(h.steps.saturating_sub(shard as u64 * size)) as u32
 }

@@ -1,15 +1,16 @@
 //! Whole record files.
 
-ghost use Rattle.std.specs.Prelude.{◌≡◌, ◌+◌, ◌-◌, ◌≤◌, false, ◌∷◌, [], length, take, drop, bytes_eq, IfOk, MatchResult, Ok, Err, nat_le, option_copied, option_map, slice_get};
-ghost use Rattle.rv_spec.specs.Record.{Parts, magic, shard_bytes};
-ghost use Rattle.rv_spec.specs.Grammar.{Spells};
+ghost use Rattle.std.specs.Prelude.{◌≡◌, ◌+◌, ◌-◌, ◌≤◌, ◌++◌, false, ◌∷◌, [], length, take, drop, bytes_eq, IfOk, MatchResult, Ok, Err, nat_le, option_copied, option_map, slice_get};
+ghost use Rattle.std.specs.List.{flat_map};
+ghost use Rattle.rv_spec.specs.Record.{Parts, magic, shard_bytes, table_bytes};
+ghost use Rattle.rv_spec.specs.Grammar.{PartsFit, Spells};
 ghost use Rattle.rv_rules.specs.Sums.{tiny_lanes};
 ghost use Rattle.rv_rules.specs.Reading.{header_of, header_checks, head_of, entry_of};
 ghost use Rattle.rv_rules.specs.Checks.{first_broken, unless_broken};
 ghost use Rattle.rv_rules.specs.Verdict.{parse as parse_of};
 ghost use Rattle.rv_file.specs.Skipping.{IsViewOf, form_left};
 ghost use Rattle.rv_rules.specs.Reading.{number_checks};
-ghost use Rattle.rv_file.specs.Parsing.{behind_shards, HoldsShards};
+ghost use Rattle.rv_file.specs.Parsing.{behind_shards, shard_size, HoldsShards};
 
 use crate::header::{header_fields, is_known};
 use crate::heads::head_fields;
@@ -25,8 +26,8 @@ use std::marker::Model;
 /// The bytes of a shard beside its rows.
 const AROUND_ROWS: usize = HEAD_BYTES + DIGESTS_BYTES;
 
-/// The first rule on a header's numbers that is broken.
-fn broken_number(h: &Header) -> Option<u8>
+/// The first rule on a header's numbers that is broken: the size of a shard, the counts of steps and shards, the end, the length of the output. None where they hold.
+pub fn broken_number(h: &Header) -> Option<u8>
     ensures { result ≡ first_broken (number_checks h.now) }
 {
     if h.size < 1 || h.size > SHARD_SIZE_LIMIT {
@@ -170,10 +171,10 @@ fn first_shard(bytes: &[u8]) -> &[u8]
     &bytes[..AROUND_ROWS + head_fields(bytes).bytes as usize]
 }
 
-/// The bytes behind the first shard.
-fn other_shards(bytes: &[u8]) -> &[u8]
-    requires { AROUND_ROWS + (head_of bytes.now).bytes ≤ length bytes.now }
-    ensures { result.now ≡ drop (AROUND_ROWS + (head_of bytes.now).bytes) bytes.now }
+/// The bytes behind the shard at the front, by the size that its head states.
+pub fn behind_shard(bytes: &[u8]) -> &[u8]
+    requires { shard_size bytes.now ≤ length bytes.now }
+    ensures { result.now ≡ drop (shard_size bytes.now) bytes.now }
 {
     &bytes[AROUND_ROWS + head_fields(bytes).bytes as usize..]
 }
@@ -185,7 +186,7 @@ fn behind(bytes: &[u8], shards: u32) -> &[u8]
 {
     let mut rest = bytes;
     for _ in 0..shards {
-        rest = other_shards(rest);
+        rest = behind_shard(rest);
     }
     rest
 }
@@ -212,6 +213,14 @@ impl<'a> Parsed<'a> {
         ensures { result.now ≡ self.now.output }
     {
         output_of(self.file, self.header.length as usize)
+    }
+
+    /// The bytes behind header and output: the shards, one after another, and the table.
+    pub fn body(&self) -> &'a [u8]
+        ensures fit { PartsFit self.now }
+        ensures spelled { result.now ≡ flat_map shard_bytes self.now.shards ++ table_bytes self.now.table }
+    {
+        shards_of(self.file, self.header.length as usize)
     }
 
     /// Shard i: its head, its rows and its digests. None exactly where i isn't below the number of shards. Goes over the heads of the shards before it.

@@ -2,10 +2,10 @@
 
 ghost use Rattle.std.specs.Prelude.{◌≡◌, ◌+◌, ◌-◌, ◌*◌, ◌≤◌, ◌<◌, ◌^◌, length, IfOk, None};
 ghost use Rattle.rv_spec.specs.Cells.{is_cell as is_cell_of};
-ghost use Rattle.rv_spec.specs.Record.{shard_rows};
 ghost use Rattle.rv_rules.specs.Reading.{above, read_entry};
 ghost use Rattle.rv_file.specs.Skipping.{IsViewOf, row_left, rows_left, head_left, digests_left, shard_left, shards_left, entries_left};
 
+use crate::header::rows_of;
 use crate::heads::head_fields;
 use crate::table::entry_fields;
 use rv_base::cells::{REGISTER_CELLS, RESERVATION_CELL};
@@ -36,14 +36,6 @@ fn skip_rows(shard: u32, rows: u32, bytes: &[u8]) -> Result<&[u8], Refusal>
         rest = skip_row(shard, row, rest)?;
     }
     Ok(rest)
-}
-
-/// The number of rows of a shard.
-fn rows_of(h: &Header, shard: u32) -> u32
-    ensures { result ≡ shard_rows h.now.size h.now.steps shard }
-{
-    let size = h.size as u64;
-    size.min(h.steps.saturating_sub(shard as u64 * size)) as u32
 }
 
 fn skip_head(shard: u32, rows: u32, bytes: &[u8]) -> Result<&[u8], Refusal>

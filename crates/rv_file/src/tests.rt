@@ -116,6 +116,9 @@ fn the_first_header(rt: HostRuntime) -> Result<(), Fail> {
     assert_eq!(rt; write_header(&header), *front);
     assert_eq!(rt; read_header(front), Some(header));
     assert_eq!(rt; front_len(front), 173);
+    assert_eq!(rt; broken_number(&header), None);
+    assert_eq!(rt; rows_of(&header, 0), 3);
+    assert_eq!(rt; rows_of(&header, 1), 0);
     Ok(())
 }
 
@@ -126,6 +129,7 @@ fn the_first_parts(rt: HostRuntime) -> Result<(), Fail> {
     let file = record(rt.alloc(), &bytes)?;
     let parsed = parse(&file)?;
     assert!(rt; parsed.output().is_empty());
+    assert_eq!(rt; Some(parsed.body()), file.get(173..));
     assert_eq!(rt; parsed.shard(0), file.get(173..635));
     assert!(rt; parsed.shard(1).is_none());
     assert_eq!(rt; write_head(&read_head(&HEAD)), HEAD);

@@ -11,7 +11,7 @@ use Rattle.rv_spec.specs.Decode.{decode}
 use Rattle.rv_rules.proofs.Lemmas.{both_true}
 use Rattle.rv_elf.specs.ElfFile.{PartBytes}
 use Rattle.rv_elf.specs.Written.{words_bytes}
-use Rattle.rv_elf.proofs.WrittenLaws.{IsWritable, bodies_of, size, no_fault, image_is}
+use Rattle.rv_elf.proofs.Lemmas.{IsWritable, bodies_of, written-size as size, written-faultless as no_fault, written-image as image_is}
 use Rattle.rv_gen.specs.Programs.{code_start, executable_of}
 use Rattle.rv_gen.proofs.Lengths.{length-words}
 use Rattle.rv_gen.proofs.Between.{CodeAt, four-same}

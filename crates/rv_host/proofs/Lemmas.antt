@@ -1,2 +1,2 @@
 -- The lemmas of this crate that others cite.
-pub use Rattle.rv_host.proofs.FileLaws.{file-with_file, with_added-with_file}
+pub use Rattle.rv_host.proofs.FileLaws.{file-with_file, found-with_file-other, with_added-with_file}

@@ -24,3 +24,5 @@ pub use Rattle.rv_isa.proofs.Slots.{slot-seen}
 pub use Rattle.rv_isa.proofs.TableOfRun.{touched-table}
 -- such cells are known, so that a hart may go on from them
 pub use Rattle.rv_isa.proofs.TableOfRun.{table-known}
+-- a step leaves each cell as it was that it doesn't write
+pub use Rattle.rv_isa.proofs.Frame.{Spares, Keeps, step-keeps}

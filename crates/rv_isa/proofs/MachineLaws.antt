@@ -4,7 +4,7 @@ use Rattle.std.proofs.lemmas.Bool.{cases_lt}
 use Rattle.rv_base.specs.declared.record.End.{End}
 use Rattle.rv_spec.specs.Elf.{Image}
 use Rattle.rv_spec.specs.Step as spec
-use Rattle.rv_spec.specs.Step.{State, step}
+use Rattle.rv_spec.specs.Step.{step}
 use Rattle.rv_spec.specs.Run.{state_after, end_of, run, end_at, GoesOn}
 use Rattle.rv_isa.specs.declared.machine.Turn.{Turn}
 use Rattle.rv_isa.specs.declared.machine.Turn.TheVariants.{Next, Ends}

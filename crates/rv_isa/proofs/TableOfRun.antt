@@ -1,5 +1,5 @@
 -- The cells that a hart has used are the table of the run.
-use Rattle.std.proofs.Common.{◌≡◌, ◌≢◌, ◌⊎◌, ℕ, zero, suc, ◌+◌, ◌^◌, ◌<◌, ◌≤◌, cond, List, [], ◌∷◌, map, refl, sym, ◌∙◌, ap, ap₂, subst, inl, inr, arith, IsTrue}
+use Rattle.std.proofs.Common.{◌≡◌, ◌≢◌, ◌⊎◌, ℕ, zero, suc, ◌+◌, ◌^◌, ◌<◌, cond, List, [], ◌∷◌, map, refl, sym, ◌∙◌, ap, ap₂, subst, inl, inr, arith, IsTrue}
 use Rattle.std.specs.List.{AllByRecursion, Contains}
 use Rattle.std.proofs.lemmas.Bool.{ne_eqb}
 use Rattle.rv_base.specs.declared.record.TableEntry.{TableEntry}
@@ -11,10 +11,9 @@ use Rattle.rv_spec.specs.Cells.{is_cell, value, initial_value, time_of}
 use Rattle.rv_spec.specs.Visits.{Visit, visit, visits, step_uses}
 use Rattle.rv_spec.specs.Run.{next_state}
 use Rattle.rv_spec.specs.Trace.{history, last_use, left_at, last_entry, rising, table_of, table, tuples_left}
-use Rattle.rv_spec.specs.Grammar.{IsRising}
 use Rattle.rv_rules.specs.Agreement.{IsProgram}
 use Rattle.rv_rules.specs.Membership.{In}
-use Rattle.rv_rules.proofs.Lemmas.{all-in, all-of, in-append, in-map, in-map-back, in-rising, last_use-is, rising-in, rising-rises}
+use Rattle.rv_rules.proofs.Lemmas.{all-in, all-of, in-append, in-map, in-map-back, in-rising, last_use-is, rising-in, rising-rises, same-rising}
 use Rattle.rv_mem.specs.Contents.{Contents, value_at, time_at, IsTable}
 use Rattle.rv_isa.specs.HartState.{HartState, StandsFor, IsTimed}
 use Rattle.rv_isa.specs.Resumed.{IsKnown}
@@ -22,29 +21,6 @@ use Rattle.rv_isa.specs.Hart.{TouchedIsTable}
 use Rattle.rv_isa.proofs.HartLaws.{cell-of}
 use Rattle.rv_isa.proofs.LastUses.{LeftBy, run-holds, holds-last-uses}
 use Rattle.rv_isa.proofs.RunRanges.{runs-fit}
-
--- ---- rising lists with the same members are equal
-
-least : (x : ℕ) (xs : List ℕ) → IsRising (x ∷ xs) → (c : ℕ) → In c (x ∷ xs) → x ≤ c
-least x xs r c (inl e) = omega arith
-least x xs r c (inr m) = let less = all-in (λ y. x < y) xs r.0 c m in omega arith
-
-later : (x c : ℕ) (xs : List ℕ) → x < c → In c (x ∷ xs) → In c xs
-later x c xs h (inl e) = absurd (omega arith)
-later x c xs h (inr m) = m
-
-same-rising : (xs ys : List ℕ) → IsRising xs → IsRising ys → ((c : ℕ) → In c xs → In c ys) → ((c : ℕ) → In c ys → In c xs) → xs ≡ ys
-same-rising [] [] rx ry to back = refl
-same-rising [] (y ∷ ys) rx ry to back = absurd (back y (inl refl))
-same-rising (x ∷ xs) [] rx ry to back = absurd (to x (inl refl))
-same-rising (x ∷ xs) (y ∷ ys) rx ry to back =
-    let low : y ≤ x = least y ys ry x (to x (inl refl)) in
-    let high : x ≤ y = least x xs rx y (back y (inl refl)) in
-    let first : x ≡ y = omega arith in
-    let rest : xs ≡ ys = same-rising xs ys rx.1 ry.1
-    (λ c m. let less : x < c = all-in (λ z. x < z) xs rx.0 c m in later y c ys (omega arith) (to c (inr m)))
-    (λ c m. let less : y < c = all-in (λ z. y < z) ys ry.0 c m in later x c xs (omega arith) (back c (inr m))) in
-    λ i. first i ∷ rest i
 
 -- ---- members of a table
 

@@ -1,5 +1,6 @@
 -- What a step takes, puts and ends with: four bytes at most, bytes, and an end in its ranges.
 use Rattle.std.proofs.Common.{◌≡◌, ℕ, zero, suc, ◌+◌, ◌-◌, ◌^◌, ◌<◌, ◌≤◌, min, Bool, true, false, cond, ◌||◌, ◌==◌, List, ◌++◌, length, take, drop, Option, Some, None, refl, sym, ap, subst, inl, inr, arith, length-append}
+use Rattle.rv_base.specs.declared.machine.TheConstants.{ILLEGAL_WORD, BREAKPOINT, MISALIGNED_JUMP, MISALIGNED_LOAD, MISALIGNED_STORE}
 use Rattle.rv_base.specs.declared.instr.Instr.{Instr}
 use Rattle.rv_base.specs.declared.instr.Instr.TheVariants.{Lui, Auipc, Jal, Jalr, Branch, Load, Store, OpImm, Op as OpReg, Fence, Ecall, Ebreak}
 use Rattle.rv_base.specs.declared.instr.AtomicOp.{AtomicOp}
@@ -21,7 +22,7 @@ choice-fits : (s : State) (b : Bool) (t u : Transition) → TurnFits s t → Tur
 choice-fits s true t u h k = h
 choice-fits s false t u h k = k
 
-stop-fits : (s : State) (kind : ℕ) → kind ≤ 5 → TurnFits s (stops kind)
+stop-fits : (s : State) (kind : ℕ) → kind ≤ MISALIGNED_STORE → TurnFits s (stops kind)
 stop-fits s kind h = record { kind = h; code = omega arith; code_of_exit = inr refl }
 
 exit-fits : (s : State) (code : ℕ) → code < 2 ^ 32 → TurnFits s (exits code)
@@ -40,14 +41,14 @@ memory-length : (m : Memory) (a k : ℕ) → length (bytes_from m a k) ≡ k
 memory-length m a zero = refl
 memory-length m a (suc k) = ap suc (memory-length m (a + 1) k)
 
-misaligned-jump-fits : (s : State) → TurnFits s (stops 3)
-misaligned-jump-fits s = stop-fits s 3 (omega arith)
+misaligned-jump-fits : (s : State) → TurnFits s (stops MISALIGNED_JUMP)
+misaligned-jump-fits s = stop-fits s MISALIGNED_JUMP (omega arith)
 
-misaligned-load-fits : (s : State) → TurnFits s (stops 4)
-misaligned-load-fits s = stop-fits s 4 (omega arith)
+misaligned-load-fits : (s : State) → TurnFits s (stops MISALIGNED_LOAD)
+misaligned-load-fits s = stop-fits s MISALIGNED_LOAD (omega arith)
 
-misaligned-store-fits : (s : State) → TurnFits s (stops 5)
-misaligned-store-fits s = stop-fits s 5 (omega arith)
+misaligned-store-fits : (s : State) → TurnFits s (stops MISALIGNED_STORE)
+misaligned-store-fits s = stop-fits s MISALIGNED_STORE (omega arith)
 
 read-fits : (input : List ℕ) (s : State) → TurnFits s (read_call input s)
 read-fits input s = go (register s 10 == 0)
@@ -101,7 +102,7 @@ instruction-fits input (OpImm o rd rs1 imm) s is = (omega arith, (λ h. h), omeg
 instruction-fits input (OpReg o rd rs1 rs2) s is = (omega arith, (λ h. h), omega arith)
 instruction-fits input (Fence rd rs1 imm) s is = (omega arith, (λ h. h), omega arith)
 instruction-fits input Ecall s is = call-fits input s is
-instruction-fits input Ebreak s is = stop-fits s 2 (omega arith)
+instruction-fits input Ebreak s is = stop-fits s BREAKPOINT (omega arith)
 
 atomic-fits : (op : AtomicOp) (rd a v : ℕ) (s : State) → TurnFits s (atomic_at op rd a v s)
 atomic-fits amo.Lr rd a v s = search (choice-fits, quiet-fits, misaligned-load-fits)
@@ -110,7 +111,7 @@ atomic-fits op rd a v s = search (choice-fits, quiet-fits, misaligned-store-fits
 
 any-fits : (input : List ℕ) (o : Option AnyInstr) (s : State) → IsState s → TurnFits s (execute_if input o s)
 unfolding execute_atomic
-any-fits input None s is = stop-fits s 1 (omega arith)
+any-fits input None s is = stop-fits s ILLEGAL_WORD (omega arith)
 any-fits input (Some (rv32im i)) s is = instruction-fits input i s is
 any-fits input (Some (rv32a i)) s is = atomic-fits i.op i.rd (register s i.rs1) (register s i.rs2) s
 

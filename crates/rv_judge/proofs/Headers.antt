@@ -16,7 +16,7 @@ use Rattle.rv_file.specs.Front.{front_length, is_record}
 use Rattle.rv_file.proofs.Lemmas.{unless_ok}
 use Rattle.rv_reading.specs.Stream.{State, reads}
 use Rattle.rv_reading.specs.Machine as machine
-use Rattle.rv_reading.specs.Machine.{told, opened, judged, first_phase}
+use Rattle.rv_reading.specs.Machine.{told, opened, first_phase}
 use Rattle.rv_reading.specs.Judging.{IsFront}
 use Rattle.rv_reading.proofs.Lemmas.{verdict_is_told, verdict_behind_front, front_stays_refused}
 use Rattle.rv_judge.specs.Subject.{Subject, IsChecked, IsWithin, step}

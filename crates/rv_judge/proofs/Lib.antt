@@ -1,7 +1,6 @@
 pub mod Concluding
 pub mod Fronts
 pub mod Headers
-pub mod InitialValues
 pub mod Lemmas
 pub mod PartsAlone
 pub mod ReadingOn

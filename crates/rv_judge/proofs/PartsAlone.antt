@@ -15,7 +15,7 @@ use Rattle.rv_file.proofs.Lemmas.{bind_ok, unless_ok}
 use Rattle.rv_reading.specs.Stream.{State, onwards, reads}
 use Rattle.rv_reading.specs.Machine as machine
 use Rattle.rv_reading.specs.Machine.{event_sums, first_tuple, last_cell, no_sums, tuple_sums}
-use Rattle.rv_reading.specs.Machine.Phase.{Shards as ShardsOf, Rows as RowsOf, Entries as EntriesOf}
+use Rattle.rv_reading.specs.Machine.Phase.{Shards as ShardsOf, Entries as EntriesOf}
 use Rattle.rv_reading.specs.Machine.Extent.{ShardsAlone, TableAlone}
 use Rattle.rv_reading.proofs.Lemmas.{reads-step, shard_alone_is_read, table_alone_is_read}
 use Rattle.rv_judge.specs.declared.phases.Machine.{Machine}

@@ -2,16 +2,14 @@
 
 ghost use Rattle.std.specs.Prelude.{◌≡◌, ◌+◌, ◌*◌, ◌<◌, ◌^◌, true};
 ghost use Rattle.rv_spec.specs.Record.{shard_rows};
-ghost use Rattle.rv_spec.specs.Cells.{initial_value as initial_value_of};
-ghost use Rattle.rv_spec.specs.Elf.{image};
 ghost use Rattle.rv_rules.specs.Reading.{last_of, first_place as first_place_of};
 ghost use Rattle.rv_reading.specs.Machine.{first_tuple as first_tuple_of};
 ghost use Rattle.rv_rules.specs.Sums.{tiny_lanes};
 ghost use Rattle.rv_rowcheck.specs.RowChecking.{IsPlace};
 ghost use Rattle.rv_judge.specs.Subject.{IsWithin};
 
-use rv_base::cells::{REGISTER_CELLS, STACK_TOP};
 use rv_base::{End, Header, Place, TableEntry, Tuple};
+use rv_file::rows_of;
 use rv_program::Program;
 use std::marker::Model;
 
@@ -32,9 +30,6 @@ impl<'c, 'p> Model for Subject<'c, 'p> {
 
     ghost invariant = { λ s. IsWithin s.header };
 }
-
-/// The cell of x2, which holds the top of the stack before the first step.
-const STACK_POINTER_CELL: u32 = REGISTER_CELLS + 2;
 
 impl<'c, 'p> Subject<'c, 'p> {
     /// The file of a program and its input, with the header that it states and its output's bytes.
@@ -75,8 +70,7 @@ impl<'c, 'p> Subject<'c, 'p> {
     pub fn rows_of(&self, shard: u32) -> u32
         ensures { result ≡ shard_rows self.now.header.size self.now.header.steps shard }
     {
-        let size = u64::from(self.header.size);
-        size.min(self.header.steps.saturating_sub(u64::from(shard) * size)) as u32
+        rows_of(&self.header, shard)
     }
 
     /// The number of the step of a shard's row.
@@ -113,26 +107,13 @@ impl<'c, 'p> Subject<'c, 'p> {
         }
     }
 
-    /// What a cell holds before the first step, in either version.
-    fn initial_value(&self, cell: u32) -> u32
-        ensures { result ≡ initial_value_of (image self.now.header.version self.now.elf) cell }
-    {
-        if cell < REGISTER_CELLS {
-            self.program.image().word(cell)
-        } else if cell == STACK_POINTER_CELL {
-            STACK_TOP
-        } else {
-            0
-        }
-    }
-
     /// The tuple by which a cell of the table is written before the first step.
     pub fn first_tuple(&self, entry: &TableEntry) -> Tuple
         ensures { result ≡ first_tuple_of self.now.elf self.now.header entry.now }
     {
         Tuple {
             cell: entry.cell,
-            value: self.initial_value(entry.cell),
+            value: self.program.initial_value(entry.cell),
             time: 0,
         }
     }

@@ -11,9 +11,10 @@ use Rattle.rv_base.specs.declared.record.TableEntry.{TableEntry}
 use Rattle.rv_base.specs.declared.record.Touch.{Touch}
 use Rattle.rv_spec.specs.Elf.{Image}
 use Rattle.rv_spec.specs.Words.{word}
-use Rattle.rv_spec.specs.Step.{start, register}
+use Rattle.rv_spec.specs.Step.{register}
 use Rattle.rv_spec.specs.Cells.{value, initial_value, is_cell, reservation_cell, time_of}
 use Rattle.rv_spec.specs.Grammar.{IsRising}
+use Rattle.rv_rules.proofs.Lemmas.{initial-register}
 use Rattle.rv_mem.specs.declared.word.Word.{Word}
 use Rattle.rv_mem.specs.declared.words.Words.{Words}
 use Rattle.rv_mem.specs.Contents.{Contents, entry_at, value_at, time_at, IsSet, IsTable}
@@ -293,11 +294,6 @@ replicated zero k = refl
 replicated (suc n) zero = refl
 replicated (suc n) (suc k) = replicated n k
 
-zeros : (z n k : ℕ) → get_or (replicate n z) k z ≡ z
-zeros z zero k = refl
-zeros z (suc n) zero = refl
-zeros z (suc n) (suc k) = zeros z n k
-
 register-first : (r : ℕ) → get_or first_registers r no_word ≡ pointer_or_zero r
 register-first r = by (equal_or_not r 2)
   where
@@ -309,24 +305,6 @@ register-first r = by (equal_or_not r 2)
       where
         to_word : ℕ → Word
         to_word v = record { value = v; time = 0 }
-
-initial-register : (i : Image) (r : ℕ) → initial_value i (2 ^ 30 + r) ≡ cond (r == 2) 0x7FFFF000 0
-unfolding value
-initial-register i r =
-    ap (λ b. cond b (word (start i).memory (2 ^ 30 + r)) (cond (2 ^ 30 + r == reservation_cell) 0 (register (start i) (2 ^ 30 + r - 2 ^ 30)))) (le-ltb (2 ^ 30 + r) (2 ^ 30) (omega arith))
-    ∙ ap (λ k. cond (2 ^ 30 + r == reservation_cell) 0 (register (start i) k)) (let k : 2 ^ 30 + r - 2 ^ 30 ≡ r = omega arith in k)
-    ∙ by (2 ^ 30 + r == reservation_cell) r (λ e. let same : 2 ^ 30 + r ≡ reservation_cell = eqb-true (2 ^ 30 + r) reservation_cell e in omega arith)
-  where
-    by : (b : Bool) (r : ℕ) → (b ≡ true → r ≡ 32) → cond b 0 (register (start i) r) ≡ cond (r == 2) 0x7FFFF000 0
-    by true r h = ap (λ k. cond (k == 2) 0x7FFFF000 0) (sym (h refl))
-    by false zero h = refl
-    by false (suc zero) h = refl
-    by false (suc (suc zero)) h = refl
-    by false (suc (suc (suc k))) h =
-        ap (λ b. cond b 0 (get_or (start i).registers (suc (suc (suc k)) - 1) 0)) (ne_eqb (suc (suc (suc k))) 0 (λ e. absurd (omega arith)))
-        ∙ ap (λ j. get_or (start i).registers j 0) (let j : suc (suc (suc k)) - 1 ≡ suc (suc k) = omega arith in j)
-        ∙ zeros 0 29 k
-        ∙ ap (λ b. cond b 0x7FFFF000 0) (sym (ne_eqb (suc (suc (suc k))) 2 (λ e. absurd (omega arith))))
 
 -- beyond the cells there is nothing
 pub nothing-beyond : (m : Words) (r : List Word) (c : ℕ) → 1073741857 ≤ c → 0 ≡ value_at (contents m r) c

@@ -1,11 +1,10 @@
 -- One shard more of the chain.
-use Rattle.std.proofs.Common.{◌≡◌, ℕ, zero, suc, ◌+◌, ◌-◌, ◌<◌, ◌≤◌, ◌%◌, Bool, true, false, ◌&&◌, ◌==◌, List, [], ◌∷◌, ◌++◌, length, drop, map, Option, Some, None, Result, Ok, Err, refl, sym, ap, subst, ◌∙◌, inl, inr, ◌⊎◌, arith}
+use Rattle.std.proofs.Common.{◌≡◌, ℕ, zero, suc, ◌+◌, ◌-◌, ◌<◌, ◌≤◌, ◌%◌, true, ◌&&◌, ◌==◌, List, [], ◌∷◌, ◌++◌, length, drop, map, Some, None, Result, Ok, Err, sym, ap, subst, ◌∙◌, inl, inr, arith}
 use Rattle.std.specs.Prelude.{nat_le}
 use Rattle.std.proofs.lemmas.Bool.{le-leb, eq-eqb, and_from}
 use Rattle.std.proofs.lemmas.List.{map-append}
 use Rattle.rv_base.specs.declared.record.Place.{Place}
 use Rattle.rv_base.specs.declared.record.Refusal.{Refusal}
-use Rattle.rv_base.specs.declared.record.ShardHead.{ShardHead}
 use Rattle.rv_base.specs.declared.record.Tuple.{Tuple}
 use Rattle.rv_base.specs.declared.record.Verdict.{Verdict}
 use Rattle.rv_base.specs.declared.record.Verdict.TheVariants.{Refuse}
@@ -20,7 +19,7 @@ use Rattle.rv_book.specs.declared.task.Piece.{Piece}
 use Rattle.rv_book.specs.Journal.{BookState, piece_at}
 use Rattle.rv_judge.specs.Subject.{Subject}
 use Rattle.rv_judge.specs.Alone.{can_stand, read_alone, stated}
-use Rattle.rv_panel.specs.Pieces.{piece_of, shard_piece}
+use Rattle.rv_panel.specs.Pieces.{piece_of}
 use Rattle.rv_panel.specs.Chaining.{AreChecked, AreDigests, IsLinked, verdict_from}
 use Rattle.rv_panel.proofs.ShardParts.{shard_read, is_shard_read}
 use Rattle.rv_panel.proofs.ShardSteps.{place_stated, no_head, displaced, refuses, goes_on, shard_events}

@@ -1,5 +1,5 @@
 -- The verdict behind all shards, by what was seen of the table.
-use Rattle.std.proofs.Common.{◌≡◌, ℕ, ◌+◌, ◌-◌, ◌<◌, ◌≤◌, Bool, true, false, not, ◌&&◌, ◌==◌, List, [], ◌∷◌, ◌++◌, length, drop, map, Result, Ok, Err, refl, sym, ap, ◌∙◌, arith}
+use Rattle.std.proofs.Common.{◌≡◌, ℕ, ◌+◌, ◌-◌, ◌<◌, ◌≤◌, Bool, true, false, not, ◌&&◌, ◌==◌, List, [], ◌∷◌, ◌++◌, length, map, Ok, Err, sym, ap, ◌∙◌, arith}
 use Rattle.std.specs.Prelude.{nat_lt, bytes_eq}
 use Rattle.std.proofs.lemmas.Bool.{ltb-true, ltb-false, eq-eqb, false_from_ne_true, eqb-true}
 use Rattle.std.proofs.lemmas.List.{length-drop}
@@ -13,7 +13,7 @@ use Rattle.rv_spec.specs.Tuples.{Event, tuple_read, tuple_written, tuple_last}
 use Rattle.rv_rules.specs.Checks.{unless_broken}
 use Rattle.rv_reading.specs.Machine.{first_tuple, told}
 use Rattle.rv_judge.specs.Subject.{Subject}
-use Rattle.rv_judge.specs.Alone.{SeesTable, IsTableSeen, ended}
+use Rattle.rv_judge.specs.Alone.{SeesTable, ended}
 use Rattle.rv_judge.specs.declared.alone.TableSeen.{TableSeen}
 use Rattle.rv_panel.specs.Chaining.{verdict_from}
 use Rattle.rv_panel.proofs.TableSteps.{table_refused, table_taken}

@@ -1,15 +1,15 @@
 -- The verdict behind header and output.
-use Rattle.std.proofs.Common.{◌≡◌, ℕ, ◌+◌, true, List, [], take, drop, Option, None, Some, Result, Ok, Err, refl, sym, ap, ◌∙◌}
+use Rattle.std.proofs.Common.{◌≡◌, ℕ, ◌+◌, true, List, [], take, drop, Option, None, Some, Ok, Err, refl, sym, ap, ◌∙◌}
 use Rattle.std.proofs.lemmas.List.{drop-drop}
 use Rattle.rv_base.specs.declared.record.Header.{Header}
 use Rattle.rv_base.specs.declared.record.Refusal.{Refusal}
 use Rattle.rv_base.specs.declared.record.Verdict.TheVariants.{Refuse}
-use Rattle.rv_spec.specs.Digest.{Lanes, digest, digest_lane}
-use Rattle.rv_rules.specs.Checks.{Check, first_broken, refused_by, unless_broken, ◌>>=◌}
+use Rattle.rv_spec.specs.Digest.{Lanes, digest_lane}
+use Rattle.rv_rules.specs.Checks.{first_broken, refused_by, unless_broken, ◌>>=◌}
 use Rattle.rv_rules.specs.Reading.{header_of, header_checks, first_place}
 use Rattle.rv_rules.specs.Verdict.{verdict}
 use Rattle.rv_reading.specs.Stream.{State, reads}
-use Rattle.rv_reading.specs.Machine.{Phase, no_sums, event_sums, first_phase, step, told, judged}
+use Rattle.rv_reading.specs.Machine.{Phase, no_sums, event_sums, first_phase, step, told}
 use Rattle.rv_reading.specs.Machine.Phase.{Shards}
 use Rattle.rv_reading.specs.Machine.Extent.{WholeFile}
 use Rattle.rv_reading.specs.Parts.{runs}

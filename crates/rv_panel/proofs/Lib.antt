@@ -8,3 +8,4 @@ pub mod ChainLaws
 pub mod EndLaws
 pub mod PieceLaws
 pub mod PanelLaws
+pub mod Lemmas

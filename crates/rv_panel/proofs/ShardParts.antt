@@ -1,13 +1,11 @@
 -- What a shard that was read is: where it ends, where the run stands behind it, and the digests of its tuples.
-use Rattle.std.proofs.Common.{◌≡◌, ℕ, zero, suc, ◌+◌, ◌*◌, ◌≤◌, Bool, true, false, ◌&&◌, ◌==◌, List, [], ◌∷◌, ◌++◌, length, get_or, take, drop, map, None, Option, Result, Ok, Err, refl, sym, ap, subst, ◌∙◌, arith}
+use Rattle.std.proofs.Common.{◌≡◌, ℕ, zero, suc, ◌+◌, ◌*◌, Bool, true, ◌&&◌, ◌==◌, List, [], ◌∷◌, ◌++◌, length, get_or, drop, map, Result, Ok, refl, sym, ap, subst, ◌∙◌, arith}
 use Rattle.std.specs.Prelude.{bytes_eq, nat_le}
-use Rattle.std.specs.List.{range_with_len}
 use Rattle.std.proofs.lemmas.Bool.{eqb-true, and_parts}
 use Rattle.std.proofs.lemmas.List.{drop-drop}
 use Rattle.std.proofs.lemmas.List.FromFn.{length-map-range_with_len}
 use Rattle.std.proofs.lemmas.Slice.Eq.{bytes_eq-Decides}
 use Rattle.rv_base.specs.declared.record.Access.{Access}
-use Rattle.rv_base.specs.declared.record.End.{End}
 use Rattle.rv_base.specs.declared.record.Header.{Header}
 use Rattle.rv_base.specs.declared.record.Place.{Place}
 use Rattle.rv_base.specs.declared.record.Refusal.{Refusal}
@@ -16,8 +14,8 @@ use Rattle.rv_spec.specs.Digest.{Lanes, digest}
 use Rattle.rv_spec.specs.Trace.{Row}
 use Rattle.rv_spec.specs.Tuples.{events, tuple_read, tuple_written}
 use Rattle.rv_spec.specs.Record.{Shard, shard_rows, row_length, rows_length}
-use Rattle.rv_rules.specs.Checks.{Check, first_broken, unless_broken, ◌>>=◌}
-use Rattle.rv_rules.specs.RowRules.{row_checks, row_rule, place_after}
+use Rattle.rv_rules.specs.Checks.{Check, unless_broken, ◌>>=◌}
+use Rattle.rv_rules.specs.RowRules.{row_checks, place_after}
 use Rattle.rv_rules.specs.Reading.{Reading, head_of, access_of, row_of, row_form, row_size, digest_of, last_of, same_place, read_row, read_rows, read_shard}
 use Rattle.rv_row.proofs.Lemmas.{all_hold}
 use Rattle.rv_file.proofs.Lemmas.{bind_ok, unless_ok, ok_is}

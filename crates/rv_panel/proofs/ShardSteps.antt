@@ -1,6 +1,5 @@
 -- The verdict on shards, one shard after another.
 use Rattle.std.proofs.Common.{◌≡◌, ℕ, zero, suc, ◌+◌, ◌*◌, ◌<◌, ◌≤◌, Bool, true, false, ◌&&◌, ◌==◌, List, [], ◌∷◌, ◌++◌, length, drop, Result, Ok, Err, refl, sym, ap, ◌∙◌, append_assoc, arith}
-use Rattle.std.specs.Prelude.{nat_le}
 use Rattle.std.proofs.lemmas.Bool.{le-leb, lt-leb, eqb-true, and_parts}
 use Rattle.rv_base.specs.declared.record.Header.{Header}
 use Rattle.rv_base.specs.declared.record.Place.{Place}
@@ -17,9 +16,8 @@ use Rattle.rv_reading.specs.Machine.{Phase, event_sums, shards_events, told}
 use Rattle.rv_reading.specs.Machine.Phase.{Shards}
 use Rattle.rv_reading.specs.Machine.Extent.{WholeFile}
 use Rattle.rv_reading.specs.Parts.{runs}
-use Rattle.rv_reading.proofs.Lemmas.{shards_are_read}
-use Rattle.rv_panel.proofs.Binding.{bind_assoc, bind_same}
-use Rattle.rv_panel.proofs.ShardParts.{shard_read, head_checks, head_holds, after_head, shard_read_is}
+use Rattle.rv_reading.proofs.Lemmas.{shards_are_read, bind_assoc, bind_same}
+use Rattle.rv_panel.proofs.ShardParts.{shard_read, head_holds, after_head, shard_read_is}
 
 and_false : (b : Bool) → (b && false) ≡ false
 and_false true = refl
@@ -63,11 +61,11 @@ module _ (lanes : Lanes) (elf input : List ℕ) (h : Header) (output : List ℕ)
       λ t. run (Shards zero (number t) o.place (event_sums true lanes (list t))) o.left in
       let inner : (x : Reading Shard) → (whole x >>= ends) ≡ next x = λ x.
       bind_assoc (others x) (λ o. Ok (put x o)) ends
-      ∙ bind_same (others x) (λ o. ends (put x o)) (ends_next x) (same x)
+      ∙ bind_same (others x) (λ o. ends (put x o)) (ends_next x) (λ o e. same x o)
       ∙ sym (shards_are_read true lanes elf input h output WholeFile n (i + 1) (es ++ shard_events i x) x.place x.left) in
       shards_are_read true lanes elf input h output WholeFile (suc n) i es p bytes
       ∙ bind_assoc read whole ends
-      ∙ bind_same read (λ x. whole x >>= ends) next inner
+      ∙ bind_same read (λ x. whole x >>= ends) next (λ x e. inner x)
 
   abbrev refused : ℕ → ℕ → Refusal
   refused i rule = record { shard = i; row = 0; rule = rule }

@@ -1,25 +1,22 @@
 -- The verdict on the table and the end, behind all shards.
-use Rattle.std.proofs.Common.{◌≡◌, ℕ, zero, suc, ◌+◌, Bool, true, ◌&&◌, ◌==◌, List, [], ◌∷◌, ◌++◌, length, drop, map, Option, Some, None, Result, Ok, Err, refl, sym, ap, subst, ◌∙◌, arith}
+use Rattle.std.proofs.Common.{◌≡◌, ℕ, zero, ◌+◌, true, ◌&&◌, ◌==◌, List, [], ◌∷◌, ◌++◌, length, drop, map, Option, Some, None, Result, Ok, Err, refl, sym, ap, ◌∙◌, arith}
 use Rattle.std.specs.Prelude.{bytes_eq, nat_le}
 use Rattle.rv_base.specs.declared.record.Header.{Header}
 use Rattle.rv_base.specs.declared.record.Place.{Place}
 use Rattle.rv_base.specs.declared.record.Refusal.{Refusal}
 use Rattle.rv_base.specs.declared.record.TableEntry.{TableEntry}
-use Rattle.rv_base.specs.declared.record.Tuple.{Tuple}
-use Rattle.rv_base.specs.declared.record.Verdict.{Verdict}
 use Rattle.rv_base.specs.declared.record.Verdict.TheVariants.{Refuse}
 use Rattle.rv_spec.specs.Words.{u32_at}
-use Rattle.rv_spec.specs.Digest.{Lanes, digest}
+use Rattle.rv_spec.specs.Digest.{Lanes}
 use Rattle.rv_spec.specs.Tuples.{Event, tuple_read, tuple_written, tuple_last}
 use Rattle.rv_rules.specs.Checks.{Check, first_broken, refused_by, unless_broken, ◌>>=◌}
-use Rattle.rv_rules.specs.Reading.{read_entry, read_entries}
+use Rattle.rv_rules.specs.Reading.{read_entries}
 use Rattle.rv_reading.specs.Stream.{State, onwards, reads}
-use Rattle.rv_reading.specs.Machine.{Phase, Sums, on_if, event_sums, tuple_sums, last_cell, first_tuple, step, step_to, told}
+use Rattle.rv_reading.specs.Machine.{Phase, Sums, event_sums, tuple_sums, last_cell, first_tuple, step, step_to, told}
 use Rattle.rv_reading.specs.Machine.Phase.{Shards, Entries}
 use Rattle.rv_reading.specs.Machine.Extent.{WholeFile}
 use Rattle.rv_reading.specs.Parts.{runs}
-use Rattle.rv_reading.proofs.Lemmas.{entries_are_read, extents_are_streams, reads-step}
-use Rattle.rv_panel.proofs.Binding.{bind_assoc, checks_bind, checks_value}
+use Rattle.rv_reading.proofs.Lemmas.{entries_are_read, extents_are_streams, reads-step, bind_assoc, checks_bind, checks_value}
 
 module _ (lanes : Lanes) (elf input : List ℕ) (h : Header) (output : List ℕ) where
   abbrev run : Phase → List ℕ → State Phase

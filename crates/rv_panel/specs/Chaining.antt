@@ -1,23 +1,19 @@
 -- Shards that were checked alone, chained in the file's order.
-use Rattle.std.specs.Prelude.{◌≡◌, ◌⊎◌, ℕ, ◌+◌, ◌<◌, ◌≤◌, true, false, List, [], length, map, Option, Some, None, Result, Ok, Err}
+use Rattle.std.specs.Prelude.{◌≡◌, ◌⊎◌, ℕ, ◌+◌, ◌<◌, ◌≤◌, true, false, List, length, map, Result, Ok, Err}
 use Rattle.rv_base.specs.declared.layout.TheConstants.{HEAD_BYTES, DIGESTS_BYTES}
 use Rattle.rv_base.specs.declared.rules.TheConstants.{SHORT, SHARD_HEAD}
-use Rattle.rv_base.specs.declared.record.End.{End}
 use Rattle.rv_base.specs.declared.record.Place.{Place}
 use Rattle.rv_base.specs.declared.record.Refusal.{Refusal}
 use Rattle.rv_base.specs.declared.record.Verdict.{Verdict}
 use Rattle.rv_base.specs.declared.record.Verdict.TheVariants.{Refuse}
 use Rattle.rv_spec.specs.Digest.{Lanes, digest}
-use Rattle.rv_spec.specs.Trace.{Row}
 use Rattle.rv_spec.specs.Tuples.{Event, tuple_read, tuple_written}
-use Rattle.rv_rules.specs.RowRules.{row_rule, place_after}
 use Rattle.rv_rules.specs.Reading.{head_of, same_place}
 use Rattle.rv_file.specs.Parsing.{behind_shards}
 use Rattle.rv_reading.specs.Machine.{event_sums, told}
 use Rattle.rv_reading.specs.Machine.Phase.{Shards}
 use Rattle.rv_reading.specs.Machine.Extent.{WholeFile}
 use Rattle.rv_reading.specs.Parts.{runs}
-use Rattle.rv_rowcheck.specs.RowChecking.{IsPlace}
 use Rattle.rv_book.specs.Journal.{BookState, IsWhole}
 use Rattle.rv_base.specs.declared.record.Header.{Header}
 use Rattle.rv_program.specs.Files.{Files}

@@ -1,6 +1,5 @@
 -- What a worker finds of a shard.
 use Rattle.std.specs.Prelude.{◌≡◌, refl, ℕ, List, [], replicate, Some, None, Result, Ok, Err}
-use Rattle.rv_base.specs.declared.record.Place.{Place}
 use Rattle.rv_base.specs.declared.record.Refusal.{Refusal}
 use Rattle.rv_book.specs.declared.task.Piece.{Piece}
 use Rattle.rv_spec.specs.Digest.{Lanes}

@@ -1,5 +1,5 @@
 -- Where the shards of a record file begin, by what the heads before them state.
-use Rattle.std.specs.Prelude.{◌≡◌, ℕ, ◌+◌, ◌<◌, ◌≤◌, List, length, drop, slice_index}
+use Rattle.std.specs.Prelude.{◌≡◌, ℕ, ◌<◌, ◌≤◌, List, length, drop, slice_index}
 use Rattle.rv_base.specs.declared.layout.TheConstants.{HEAD_BYTES}
 use Rattle.rv_file.specs.Parsing.{behind_shards}
 

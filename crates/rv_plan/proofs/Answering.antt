@@ -1,5 +1,5 @@
 -- The promise of a call that tells how a plan ended, from how it ended and what was printed.
-use Rattle.std.proofs.Common.{◌≡◌, ◌≢◌, ◌⊎◌, inl, inr, ℕ, ◌≤◌, List, [], ◌++◌, Bool, true, false, Option, Some, None, Ok, Err, ◌==◌, nat_lt, refl, sym, ◌∙◌, ap, subst, arith, option_map, length, if◌then◌else◌}
+use Rattle.std.proofs.Common.{◌≡◌, ◌≢◌, ◌⊎◌, inl, inr, ℕ, ◌≤◌, List, [], ◌++◌, Bool, true, false, Option, Some, None, Ok, ◌==◌, nat_lt, refl, sym, ◌∙◌, ap, subst, arith, option_map, length, if◌then◌else◌}
 use Rattle.std.proofs.lemmas.Bool.{eqb-false, false≢true}
 use Rattle.rv_base.specs.declared.limits.TheConstants.{ELF_LIMIT, INPUT_LIMIT}
 use Rattle.rv_spec.specs.Elf.{first_fault}
@@ -16,7 +16,7 @@ use Rattle.rv_plan.specs.declared.told.Told.{Told}
 use Rattle.rv_plan.specs.declared.faults.Fault.{Fault}
 use Rattle.rv_plan.specs.declared.faults.Limited.{Limited}
 use Rattle.rv_plan.specs.declared.faults.Limited.TheVariants as limited
-use Rattle.rv_plan.specs.declared.faults.Fault.TheVariants.{Words, Elf, Budget, Read, Write, Memory, Limit, NotBuilt}
+use Rattle.rv_plan.specs.declared.faults.Fault.TheVariants.{Words, Elf, Budget, Read, Write, Memory, Limit}
 
 apart : {m n : ℕ} → (m == n) ≡ false → m ≢ n
 apart {m} {n} e = eqb-false m n e
@@ -31,7 +31,6 @@ refusal_listed Read = record { status = omega arith; writes = λ _. refl }
 refusal_listed Write = record { status = omega arith; writes = λ _. refl }
 refusal_listed Memory = record { status = omega arith; writes = λ _. refl }
 refusal_listed (Limit what) = record { status = omega arith; writes = λ _. refl }
-refusal_listed NotBuilt = record { status = omega arith; writes = λ _. refl }
 
 pub success_listed : (o : Outcome) → o.status ≡ 0 → IsListed o
 success_listed o is = record { status = omega (arith, is); writes = λ n. absurd (n is) }
@@ -70,8 +69,8 @@ nothing_written s s' h = record { files = h.files ∙ sym (same_files s.files); 
 unwritten_files : (o : Outcome) (s s' : ShelfView) → o.writes ≡ [] → IsWritten o.writes s s' → s'.files ≡ s.files
 unwritten_files o s s' none h = h.files ∙ ap (λ writes. option_map (λ told. with_due told writes) s.files) none ∙ same_files s.files
 
-ended_status : (p : Plan) → AllListed p → (s s' : ShelfView) (status : ℕ) (text : List ℕ) → Ends p s s' status text → status ≤ 9
-ended_status p h s s' status text (done o reached is _ _) = subst (λ n. n ≤ 9) (sym is) (h s.files o reached).status
+ended_status : (p : Plan) → AllListed p → (s s' : ShelfView) (status : ℕ) (text : List ℕ) → Ends p s s' status text → status ≤ 8
+ended_status p h s s' status text (done o reached is _ _) = subst (λ n. n ≤ 8) (sym is) (h s.files o reached).status
 ended_status p h s s' status text (unread is _ _ _) = omega (arith, is)
 ended_status p h s s' status text (unwritten _ _ is _ _) = omega (arith, is)
 ended_status p h s s' status text (no_memory _ is _ _) = omega (arith, is)
@@ -83,7 +82,7 @@ ended_files p h s s' status text (unwritten _ _ is _ _) not0 not6 = absurd (not6
 ended_files p h s s' status text (no_memory _ _ _ left) not0 not6 = left.files
 
 -- over told files the contents are the told ones
-reaches_told : (files : Files) (p : Plan) (o : Outcome) → Reaches (Some files) p o → o ≡ outcome_over files p
+pub reaches_told : (files : Files) (p : Plan) (o : Outcome) → Reaches (Some files) p o → o ≡ outcome_over files p
 reaches_told files (read name next) o r = reaches_told files (next r.0) o r.2 ∙ ap (λ contents. outcome_over files (next contents)) r.1
 reaches_told files (answer p) o r = r
 
@@ -104,7 +103,7 @@ answers p h s s' t t' status text result e (whole is gains) = record {
   text = text;
   ended = e;
   printed = whole is gains;
-  listed = (omega arith, subst (λ n. n ≤ 9) (sym is) (ended_status p h s s' status text e));
+  listed = (omega arith, subst (λ n. n ≤ 8) (sym is) (ended_status p h s s' status text e));
   told = λ files told not5 not6 not7. ended_told p s s' t t' status text result files e is gains told (λ z. not5 (is ∙ z)) (λ z. not6 (is ∙ z)) (λ z. not7 (is ∙ z));
   kept = λ not0 not6. ended_files p h s s' status text e (λ z. not0 (is ∙ z)) (λ z. not6 (is ∙ z));
 }
@@ -131,7 +130,6 @@ stopped p s s' Read h = unread refl refl h.1 h.0
 stopped p s s' Write h = unwritten h.0 h.1 refl refl h.2
 stopped p s s' Memory h = no_memory h.1 refl refl h.0
 stopped p s s' (Limit what) h = refused p s s' (Limit what) h
-stopped p s s' NotBuilt h = refused p s s' NotBuilt h
 
 -- the status of a fault with a number
 numbered_status : (e : Fault) → has_number e ≡ true → (status_of e ≡ 3) ⊎ (status_of e ≡ 4)
@@ -142,7 +140,6 @@ numbered_status Read n = absurd (false≢true n)
 numbered_status Write n = absurd (false≢true n)
 numbered_status Memory n = absurd (false≢true n)
 numbered_status (Limit what) n = absurd (false≢true n)
-numbered_status NotBuilt n = absurd (false≢true n)
 
 -- and of one without
 bare_status : (f : Fault) → has_number f ≡ false → (status_of f ≢ 3) × (status_of f ≢ 4)
@@ -153,7 +150,6 @@ bare_status Read n = (apart refl, apart refl)
 bare_status Write n = (apart refl, apart refl)
 bare_status Memory n = (apart refl, apart refl)
 bare_status (Limit what) n = (apart refl, apart refl)
-bare_status NotBuilt n = (apart refl, apart refl)
 
 statuses_apart : (x y : ℕ) → (x ≡ 3) ⊎ (x ≡ 4) → (y ≢ 3) × (y ≢ 4) → x ≢ y
 statuses_apart x y (inl three) n same = n.0 (sym same ∙ three)
@@ -176,7 +172,6 @@ unnumbered p s s' Read n h = absurd (false≢true n)
 unnumbered p s s' Write n h = absurd (false≢true n)
 unnumbered p s s' Memory n h = absurd (false≢true n)
 unnumbered p s s' (Limit what) n h = absurd (false≢true n)
-unnumbered p s s' NotBuilt n h = absurd (false≢true n)
 
 pub fault_answers : (p : Plan) → AllListed p → (s s' : ShelfView) (t t' : SinkView) (f : Fault) (result : ℕ) → Stops p s s' f → PrintsFault t t' f result → Answers p s s' t t' result
 fault_answers p h s s' t t' f result stops (inl printed) = answers p h s s' t t' (status_of f) (line_of f) result (stopped p s s' f stops) printed

@@ -17,7 +17,7 @@ use Rattle.rv_plan.specs.FileCalls.{IsUnchanged, Loads, Performs, PerformsBehind
 use Rattle.rv_plan.specs.declared.faults.Fault.{Fault}
 use Rattle.rv_plan.specs.declared.faults.Limited.{Limited}
 use Rattle.rv_plan.specs.declared.faults.Limited.TheVariants as limited
-use Rattle.rv_plan.specs.declared.faults.Fault.TheVariants.{Words, Elf, Budget, Read, Write, Memory, Limit, NotBuilt}
+use Rattle.rv_plan.specs.declared.faults.Fault.TheVariants.{Words, Elf, Budget, Read, Write, Memory, Limit}
 use Rattle.rv_plan.specs.declared.loading.Loaded.{Loaded}
 use Rattle.rv_plan.specs.declared.told.Told.{Told}
 
@@ -88,7 +88,6 @@ read_stops name limit what s s' Read next h = (h.0, inl h.1)
 read_stops name limit what s s' Write next h = absurd h
 read_stops name limit what s s' Memory next h = (h, tt)
 read_stops name limit what s s' (Limit over) next h = (left h.0, reaches_above s.files name limit what over next h.1 h.2)
-read_stops name limit what s s' NotBuilt next h = absurd h
 
 pub elf_refused : (elf input : List ℕ) (before after : ShelfView) (f : Fault) → ReadsWithin elf ELF_LIMIT limited.Elf before after (Err f) → (next : List ℕ → List ℕ → Plan) → Stops (read_program elf input next) before after f
 elf_refused elf input before after f h next = read_stops elf ELF_LIMIT limited.Elf before after f _ h
@@ -111,7 +110,6 @@ input_refused elf input bytes before middle after (Limit over) was h next = (
   reaches_within before.files elf ELF_LIMIT limited.Elf _ (refuses (Limit over)) bytes was.1 was.2
       (reaches_above before.files input INPUT_LIMIT limited.Input over _ h.1 (h.2.0, h.2.1, subst (λ files. IsContents files input h.2.0) was.0.files h.2.2)),
 )
-input_refused elf input bytes before middle after NotBuilt was h next = absurd h
 
 -- both files are read, the second after the first
 pub both_loaded : (elf input : List ℕ) (before middle after : ShelfView) (l : Loaded) → ReadsWithin elf ELF_LIMIT limited.Elf before middle (Ok l.elf) → ReadsWithin input INPUT_LIMIT limited.Input middle after (Ok l.input) → Loads elf input before after (Ok l)
@@ -166,7 +164,6 @@ lift_stops s s' s'' p q Read same takes on fails h = (leaves_behind same h.0, fa
 lift_stops s s' s'' p q Write same takes on fails h = (h.0, on h.0 (reaches_before p h.0 same h.1), writes_fail h.0.writes s s' s'' same h.2)
 lift_stops s s' s'' p q Memory same takes on fails h = (leaves_behind same h, takes)
 lift_stops s s' s'' p q (Limit what) same takes on fails h = (leaves_behind same h.0, on (refuses (Limit what)) (reaches_before p (refuses (Limit what)) same h.1))
-lift_stops s s' s'' p q NotBuilt same takes on fails h = (leaves_behind same h.0, on (refuses NotBuilt) (reaches_before p (refuses NotBuilt) same h.1))
 
 lift_performs : (s s' s'' : ShelfView) (p q : Plan) (r : Result Told Fault) → IsUnchanged s s' → TakesMemory q → ((o : Outcome) → Reaches s.files p o → Reaches s.files q o) → (ReadFails s s'' p → ReadFails s s'' q) → PerformsBehind p s' s'' r → Performs q s s'' r
 lift_performs s s' s'' p q (Ok told) same takes on fails h = (
@@ -205,4 +202,3 @@ performs_behind p s s' (Err Read) h = h
 performs_behind p s s' (Err Write) h = h
 performs_behind p s s' (Err Memory) h = h.0
 performs_behind p s s' (Err (Limit what)) h = h
-performs_behind p s s' (Err NotBuilt) h = h

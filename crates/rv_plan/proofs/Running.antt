@@ -1,9 +1,8 @@
 -- What is loaded is told, and what is due is written, as the plans say.
-use Rattle.std.proofs.Common.{◌≡◌, ℕ, List, Ok, Err, refl, sym, ◌∙◌, ap, subst, option_map}
+use Rattle.std.proofs.Common.{◌≡◌, Ok, Err, sym, ◌∙◌, ap, subst, option_map}
 use Rattle.rv_host.specs.Views.{ShelfView}
-use Rattle.rv_host.specs.Counts.{Rose}
-use Rattle.rv_plan.specs.Plan.{Due, Outcome, Plan, with_due}
-use Rattle.rv_plan.specs.Endings.{Reaches, WriteFails}
+use Rattle.rv_plan.specs.Plan.{Outcome, Plan, with_due}
+use Rattle.rv_plan.specs.Endings.{Reaches}
 use Rattle.rv_plan.specs.FileCalls.{IsUnchanged, Performs, Stops, Writes}
 use Rattle.rv_plan.specs.declared.faults.Fault.{Fault}
 use Rattle.rv_plan.specs.declared.told.Told.{Told}

@@ -30,7 +30,7 @@ pub record IsOutcomeOf (plan : Plan) (files : Files) (shelf' : ShelfView) (sink 
 
 -- An outcome has a status of the table, and writes nothing unless it is a success.
 pub record IsListed (o : Outcome) : Type 0 where
-  pub status : o.status ≤ 9
+  pub status : o.status ≤ 8
   pub writes : o.status ≢ 0 → o.writes ≡ []
 
 -- each outcome that a plan may reach
@@ -44,7 +44,7 @@ pub record Answers (plan : Plan) (shelf shelf' : ShelfView) (sink sink' : SinkVi
   pub ended : Ends plan shelf shelf' status text
   pub printed : Prints sink sink' status text result
   -- the statuses of the table
-  pub listed : IsInRange 0 9 result
+  pub listed : IsInRange 0 8 result
   -- where the files are told, only failures and want of memory keep from the outcome over them
   pub told : (files : Files) → shelf.files ≡ Some files → result ≢ 5 → result ≢ 6 → result ≢ 7 → IsOutcomeOf plan files shelf' sink sink' result
   -- only success and a failed write may change a file

@@ -1,5 +1,5 @@
 -- How a command ends, and what it leaves on its shelf.
-use Rattle.std.specs.Prelude.{◌≡◌, ◌≢◌, ◌⊎◌, false, ℕ, List, [], ◌∷◌, ◌++◌, length, take, Option, Some, IfSome}
+use Rattle.std.specs.Prelude.{◌≡◌, ◌≢◌, ◌⊎◌, false, ℕ, List, ◌∷◌, ◌++◌, take, Option, Some, IfSome}
 use Rattle.std.specs.Option.{option_map}
 use Rattle.rv_host.specs.Counts.{Rose}
 use Rattle.rv_host.specs.Files.{Files, file, with_file}

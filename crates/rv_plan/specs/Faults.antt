@@ -4,7 +4,7 @@ use Rattle.rv_elf.specs.Faults.{number_of}
 use Rattle.rv_plan.specs.declared.faults.Limited.{Limited}
 use Rattle.rv_plan.specs.declared.faults.Limited.TheVariants as limited
 use Rattle.rv_plan.specs.declared.faults.Fault.{Fault}
-use Rattle.rv_plan.specs.declared.faults.Fault.TheVariants.{Words, Elf, Budget, Read, Write, Memory, Limit, NotBuilt}
+use Rattle.rv_plan.specs.declared.faults.Fault.TheVariants.{Words, Elf, Budget, Read, Write, Memory, Limit}
 use Rattle.rv_plan.specs.Lines.{line, elf_line, budget_line, limit_line}
 
 abbrev pub status_of : Fault → ℕ
@@ -15,7 +15,6 @@ status_of Read = 5
 status_of Write = 6
 status_of Memory = 7
 status_of (Limit _) = 8
-status_of NotBuilt = 9
 
 abbrev pub name_of : Limited → List ℕ
 name_of limited.Elf = codes "elf"
@@ -31,7 +30,6 @@ line_of Read = line (codes "fault read")
 line_of Write = line (codes "fault write")
 line_of Memory = line (codes "fault memory")
 line_of (Limit what) = limit_line (name_of what)
-line_of NotBuilt = line (codes "fault notbuilt")
 
 -- the lines that tell a number
 abbrev pub has_number : Fault → Bool

@@ -1,5 +1,5 @@
 -- What reading and writing whole files leaves on a shelf, by what it answers.
-use Rattle.std.specs.Prelude.{◌≡◌, ◌⊎◌, ℕ, ◌<◌, ◌≤◌, List, [], ◌∷◌, ◌++◌, length, take, Some, Result, Ok, Err}
+use Rattle.std.specs.Prelude.{◌≡◌, ℕ, ◌<◌, ◌≤◌, List, [], ◌∷◌, ◌++◌, length, take, Some, Result, Ok, Err}
 use Rattle.std.specs.List.{flat_map}
 use Rattle.rv_base.specs.declared.limits.TheConstants.{ELF_LIMIT, INPUT_LIMIT}
 use Rattle.rv_host.specs.Counts.{Rose}
@@ -10,7 +10,7 @@ use Rattle.rv_plan.specs.Endings.{IsContents, IsTorn, IsWritten, Leaves, ReadFai
 use Rattle.rv_plan.specs.declared.faults.Fault.{Fault}
 use Rattle.rv_plan.specs.declared.faults.Limited.{Limited}
 use Rattle.rv_plan.specs.declared.loading.Loaded.{Loaded}
-use Rattle.rv_plan.specs.declared.faults.Fault.TheVariants.{Budget, Read, Write, Memory, Limit, NotBuilt}
+use Rattle.rv_plan.specs.declared.faults.Fault.TheVariants.{Read, Write, Memory, Limit}
 use Rattle.rv_plan.specs.declared.told.Told.{Told}
 use Rattle.rv_plan.specs.declared.writing.DueFile.{DueFile}
 

@@ -39,8 +39,6 @@ pub enum Fault {
     Memory,
     /// A file, or what a run needs, is above its limit.
     Limit(Limited),
-    /// The program can't do this yet.
-    NotBuilt,
 }
 
 impl Fault {
@@ -56,7 +54,6 @@ impl Fault {
             Fault::Write => 6,
             Fault::Memory => 7,
             Fault::Limit(_) => 8,
-            Fault::NotBuilt => 9,
         }
     }
 
@@ -74,7 +71,6 @@ impl Fault {
             Fault::Limit(Limited::Input) => Some("fault limit input\n"),
             Fault::Limit(Limited::Record) => Some("fault limit record\n"),
             Fault::Limit(Limited::Shards) => Some("fault limit shards\n"),
-            Fault::NotBuilt => Some("fault notbuilt\n"),
         }
     }
 

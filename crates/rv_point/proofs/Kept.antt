@@ -4,8 +4,8 @@ use Rattle.rv_spec.specs.Step.{State, Transition, Next, Ends, step}
 use Rattle.rv_spec.specs.Run.{state_after, next_state}
 use Rattle.rv_spec.specs.Cells.{value}
 use Rattle.rv_spec.specs.Visits.{step_uses}
-pub use Rattle.rv_point.proofs.Frame.{Spares}
-use Rattle.rv_point.proofs.Frame.{Keeps, step-keeps}
+pub use Rattle.rv_isa.proofs.Lemmas.{Spares}
+use Rattle.rv_isa.proofs.Lemmas.{Keeps, step-keeps}
 
 after-kept : (c : ℕ) (s : State) (turn : Transition) → Keeps c s turn → value (state_after s turn) c ≡ value s c
 after-kept c s (Next t) h = h

@@ -12,5 +12,3 @@ pub use Rattle.rv_point.proofs.StartLaws.{steps-within}
 pub use Rattle.rv_point.proofs.ReplayLaws.{replays-begin, replays-step}
 -- the cells of a start are some that a hart may go on from
 pub use Rattle.rv_point.proofs.ReplayLaws.{start-known}
--- a run puts four bytes a step at most
-pub use Rattle.rv_point.proofs.Puts.{output-few}

@@ -5,13 +5,11 @@ mod LatestUse
 mod FirstUses
 mod Kept
 mod LeftTuples
-mod Frame
 mod RunFirsts
 mod SortedEntries
 mod CourseLaws
 mod Collected
 mod StartLaws
 mod WalkLaws
-mod Puts
 mod ReplayLaws
 pub mod Lemmas

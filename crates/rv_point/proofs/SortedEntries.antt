@@ -10,7 +10,7 @@ use Rattle.rv_base.specs.declared.record.TableEntry.{TableEntry}
 use Rattle.rv_spec.specs.Grammar.{IsRising}
 use Rattle.rv_rules.specs.Chain.{AllDiffer}
 use Rattle.rv_rules.specs.Membership.{In}
-use Rattle.rv_rules.proofs.Lemmas.{in-map, in-map-back, all-in, all-of}
+use Rattle.rv_rules.proofs.Lemmas.{in-map, in-map-back, all-in, all-of, same-rising}
 
 abbrev pub cells : List TableEntry → List ℕ
 cells xs = map (λ x. x.cell) xs
@@ -76,29 +76,6 @@ sorted-rises (x ∷ xs) up few =
       sorted-rises xs (λ a b d le less. up (suc a) (suc b) d (omega arith) (omega arith))
           (λ c. (let most : cond (x.cell == c) 1 0 + times c xs ≤ 1 = few c in omega arith)),
     )
-
--- ---- rising lists with the same members are equal
-
-first_least : (x : ℕ) (xs : List ℕ) → IsRising (x ∷ xs) → (c : ℕ) → In c (x ∷ xs) → x ≤ c
-first_least x xs r c (inl e) = omega arith
-first_least x xs r c (inr m) = let less = all-in (λ y. x < y) xs r.0 c m in omega arith
-
-not_first : (x c : ℕ) (xs : List ℕ) → x < c → In c (x ∷ xs) → In c xs
-not_first x c xs h (inl e) = absurd (omega arith)
-not_first x c xs h (inr m) = m
-
-pub same-rising : (xs ys : List ℕ) → IsRising xs → IsRising ys → ((c : ℕ) → In c xs → In c ys) → ((c : ℕ) → In c ys → In c xs) → xs ≡ ys
-same-rising [] [] rx ry to back = refl
-same-rising [] (y ∷ ys) rx ry to back = absurd (back y (inl refl))
-same-rising (x ∷ xs) [] rx ry to back = absurd (to x (inl refl))
-same-rising (x ∷ xs) (y ∷ ys) rx ry to back =
-    let low : y ≤ x = first_least y ys ry x (to x (inl refl)) in
-    let high : x ≤ y = first_least x xs rx y (back y (inl refl)) in
-    let first : x ≡ y = omega arith in
-    let rest : xs ≡ ys = same-rising xs ys rx.1 ry.1
-    (λ c m. let less : x < c = all-in (λ z. x < z) xs rx.0 c m in not_first y c ys (omega arith) (to c (inr m)))
-    (λ c m. let less : y < c = all-in (λ z. y < z) ys ry.0 c m in not_first x c xs (omega arith) (back c (inr m))) in
-    λ i. first i ∷ rest i
 
 -- ---- the sorted entries
 

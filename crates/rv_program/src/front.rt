@@ -3,35 +3,13 @@
 ghost use Rattle.std.specs.Prelude.{◌≡◌, true, None, Some, MatchResult, IfOk, ◌+◌, ◌≤◌, length};
 ghost use Rattle.rv_spec.specs.Digest.{Lanes};
 ghost use Rattle.rv_rules.specs.Checks.{first_broken, unless_broken};
-ghost use Rattle.rv_rules.specs.Reading.{header_checks, header_of, number_checks};
+ghost use Rattle.rv_rules.specs.Reading.{header_checks, header_of};
 
 use crate::program::Program;
 use rv_base::layout::HEADER_BYTES;
-use rv_base::limits::{OUTPUT_LIMIT, SHARD_SIZE_LIMIT, SHARDS_LIMIT};
-use rv_base::machine::{EXIT, MISALIGNED_STORE};
-use rv_base::rules::{COUNTS, END_KIND, INPUT, MAGIC, OUTPUT_LENGTH, PROGRAM, SHARD_SIZE, SHORT};
+use rv_base::rules::{INPUT, MAGIC, PROGRAM, SHORT};
 use rv_base::{Header, Refusal};
-use rv_file::read_header;
-
-/// The first rule on a header's numbers that is broken.
-fn broken_number(h: &Header) -> Option<u8>
-    ensures { result ≡ first_broken (number_checks h.now) }
-{
-    if h.size < 1 || h.size > SHARD_SIZE_LIMIT {
-        return Some(SHARD_SIZE);
-    }
-    let shards = h.steps.div_ceil(h.size as u64);
-    if h.steps < 1 || h.shards as u64 != shards || h.shards > SHARDS_LIMIT {
-        return Some(COUNTS);
-    }
-    if h.end.kind > MISALIGNED_STORE || h.end.kind != EXIT && h.end.code != 0 {
-        return Some(END_KIND);
-    }
-    if h.length > OUTPUT_LIMIT {
-        return Some(OUTPUT_LENGTH);
-    }
-    None
-}
+use rv_file::{broken_number, read_header};
 
 /// The header, or the first rule that is broken.
 fn checked(program: &Program<'_>, file: &[u8]) -> Result<Header, u8>

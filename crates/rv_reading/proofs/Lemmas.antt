@@ -15,3 +15,7 @@ pub use Rattle.rv_reading.proofs.ShardsRead.{shards_are_read, shard_alone_is_rea
 pub use Rattle.rv_reading.proofs.TableRead.{entries_are_read, table_alone_is_read}
 -- of any stream: reading is a step and then reading, also with more bytes behind, and what waits is refused by rule 1 or not at all
 pub use Rattle.rv_reading.proofs.StreamLaws.{reads-step, reads-goes, reads-stops, waiting_refused}
+-- what lies at the front of bytes is read the same, whatever comes behind
+pub use Rattle.rv_reading.proofs.Fronts.{head_front, digest_front, header_front}
+-- steps that may refuse, one after another
+pub use Rattle.rv_reading.proofs.Binding.{bind_assoc, bind_same, checks_bind, checks_value}

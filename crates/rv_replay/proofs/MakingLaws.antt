@@ -1,6 +1,6 @@
 -- A shard in the making, row by row.
 use Rattle.std.proofs.Common.{◌≡◌, ℕ, zero, suc, ◌+◌, ◌-◌, ◌*◌, ◌^◌, ◌<◌, ◌≤◌, List, [], ◌∷◌, ◌++◌, None, length, drop, map, refl, sym, ◌∙◌, ap, subst, arith, append-nil, append_assoc}
-use Rattle.std.specs.List.{flat_map, range_with_len}
+use Rattle.std.specs.List.{flat_map}
 use Rattle.std.proofs.lemmas.List.{map-append, length-append, length-map}
 use Rattle.std.proofs.lemmas.List.Concat.{flat_map-append}
 use Rattle.std.proofs.lemmas.List.FromFn.{length-map-range_with_len}
@@ -25,7 +25,6 @@ use Rattle.rv_isa.specs.Hart.{TakesStepFrom, TakesTimes}
 use Rattle.rv_isa.specs.HartState.{HartState, StandsFor, IsTimed}
 use Rattle.rv_isa.specs.Ranges.{Rises}
 use Rattle.rv_isa.proofs.Lemmas.{step-slots-rise}
-use Rattle.rv_pairs.specs.declared.pairing.Pairing.{Pairing}
 use Rattle.rv_pairs.specs.Covers.{Covers}
 use Rattle.rv_point.specs.Replays.{IsReplaying, MakesRow}
 use Rattle.rv_point.proofs.Lemmas.{rows-more, replays-step}

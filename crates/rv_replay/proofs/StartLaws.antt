@@ -1,5 +1,5 @@
 -- What a start tells of a run.
-use Rattle.std.proofs.Common.{◌≡◌, ℕ, ◌+◌, ◌*◌, ◌%◌, ◌^◌, ◌<◌, ◌≤◌, List, length, map, refl, sym, ◌∙◌, ap, subst, arith}
+use Rattle.std.proofs.Common.{◌≡◌, ℕ, ◌+◌, ◌*◌, ◌%◌, ◌<◌, ◌≤◌, List, length, map, sym, ◌∙◌, ap, subst, arith}
 use Rattle.std.specs.List.{AllByRecursion}
 use Rattle.std.proofs.Math.Nat.{mul-le-mul_left}
 use Rattle.rv_base.specs.declared.limits.TheConstants.{SHARD_SIZE_LIMIT, SHARDS_LIMIT}
@@ -11,11 +11,11 @@ use Rattle.rv_spec.specs.Trace.{rows}
 use Rattle.rv_spec.specs.Record.{place_at}
 use Rattle.rv_spec.specs.Grammar.{IsRising}
 use Rattle.rv_rules.specs.Agreement.{IsState, IsProgram}
-use Rattle.rv_isa.proofs.Lemmas.{runs-are-states}
+use Rattle.rv_isa.proofs.Lemmas.{runs-are-states, runs-fit}
 use Rattle.rv_isa.specs.Resumed.{IsKnown}
 use Rattle.rv_point.specs.declared.start.ShardStart.{ShardStart}
 use Rattle.rv_point.specs.Start.{steps_from, cell_at, cells_of, shard_start, IsStart}
-use Rattle.rv_point.proofs.Lemmas.{steps-within, start-known, output-few}
+use Rattle.rv_point.proofs.Lemmas.{steps-within, start-known}
 use Rattle.rv_replay.specs.Making.{IsStartOf}
 
 module _ (i : Image) (input : List ℕ) (program : IsProgram i) (bytes : AreBytes input) (s : ShardStart) (is : IsStart i input s) where
@@ -51,7 +51,7 @@ module _ (i : Image) (input : List ℕ) (program : IsProgram i) (bytes : AreByte
         few = omega arith;
         number = omega (arith, step-is);
         place_is = place-is;
-        output = output-few i input (runs-are-states i input program bytes) s.step;
+        output = (runs-fit i input program bytes s.step).put_most;
       }
 
   known : IsRising (map (λ e. e.cell) (map (cell_at i input s.step) (cells_of (rows i input s.step s.rows)))) × AllByRecursion (IsKnown i) (map (cell_at i input s.step) (cells_of (rows i input s.step s.rows)))

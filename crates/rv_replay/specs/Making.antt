@@ -1,5 +1,5 @@
 -- A shard in the making.
-use Rattle.std.specs.Prelude.{◌≡◌, ◌+◌, ◌*◌, ◌^◌, ◌≤◌, ℕ, List, [], ◌++◌, length, map, replicate}
+use Rattle.std.specs.Prelude.{◌≡◌, ◌+◌, ◌*◌, ◌^◌, ◌≤◌, ℕ, List, ◌++◌, length, map}
 use Rattle.std.specs.List.{flat_map}
 use Rattle.rv_base.specs.declared.limits.TheConstants.{SHARD_SIZE_LIMIT}
 use Rattle.rv_base.specs.declared.layout.TheConstants.{HEAD_BYTES}

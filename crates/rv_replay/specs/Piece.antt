@@ -1,5 +1,5 @@
 -- The piece that the replay of a shard gives.
-use Rattle.std.specs.Prelude.{◌≡◌, ◌+◌, ◌*◌, ℕ, List, None}
+use Rattle.std.specs.Prelude.{◌+◌, ◌*◌, ℕ, List, None}
 use Rattle.rv_spec.specs.Elf.{Image}
 use Rattle.rv_spec.specs.Digest.{Lanes}
 use Rattle.rv_spec.specs.Record.{place_at, shard_bytes, shard_of}

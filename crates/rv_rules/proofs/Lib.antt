@@ -10,5 +10,6 @@ mod Members
 mod ChainLaws
 mod OldValues
 mod MemoryLaws
+mod InitialCells
 pub mod VerdictExamples
 mod BrokenFiles

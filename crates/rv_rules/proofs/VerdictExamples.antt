@@ -1,7 +1,6 @@
 -- Verdicts on the record of the first worked program and on changed files.
 use Rattle.std.proofs.Common.{◌≡◌, ℕ, List, [], ◌∷◌, ◌++◌, map, take, set, refl}
 use Rattle.rv_base.specs.declared.record.Verdict.TheVariants.{Accept, Refuse}
-use Rattle.rv_spec.specs.Elf.{image}
 use Rattle.rv_spec.specs.Digest.{sha_lanes}
 use Rattle.rv_spec.specs.Trace.{row}
 use Rattle.rv_spec.specs.Record.{record_file}

@@ -5,7 +5,7 @@ ghost use Rattle.rv_spec.specs.Trace.{Row};
 ghost use Rattle.rv_spec.specs.Tuples.{events};
 ghost use Rattle.rv_spec.specs.Elf.{image};
 ghost use Rattle.rv_spec.specs.Cells.{initial_value};
-ghost use Rattle.rv_spec.specs.Record.{Shard, reads, shard_rows, writes};
+ghost use Rattle.rv_spec.specs.Record.{Shard, reads, writes};
 ghost use Rattle.rv_spec.specs.Grammar.{Spells};
 ghost use Rattle.rv_settle.specs.Collecting.{GainsEntries, GainsEvents};
 ghost use Rattle.rv_settle.specs.Spelled.{IsWithin, SpellRows, SpellShard, SpellShards, rows_of_all};
@@ -14,7 +14,7 @@ use crate::tuples::Tuples;
 use rv_base::layout::{DIGESTS_BYTES, HEAD_BYTES, HEADER_BYTES};
 use rv_base::limits::SHARD_SIZE_LIMIT;
 use rv_base::{Header, NoMemory, TableEntry, Tuple};
-use rv_file::Parsed;
+use rv_file::{Parsed, rows_of};
 use rv_program::Program;
 use rv_row::{RowRead, read_row};
 use std::alloc::Global;
@@ -46,15 +46,6 @@ fn collect_rows<'a>(
         rest = behind(rest, length);
     }
     Ok(rest)
-}
-
-/// The number of rows of a shard.
-fn rows_of(h: &Header, shard: u32) -> u32
-    ensures value { result ≡ shard_rows h.now.size h.now.steps shard }
-    ensures most { result ≤ h.now.size }
-{
-    let size = u64::from(h.size);
-    size.min(h.steps.saturating_sub(u64::from(shard) * size)) as u32
 }
 
 /// Adds the tuples of a shard, whose first row is that of a step. Answers the bytes behind the shard.

@@ -1,18 +1,18 @@
 -- One shard more of those that are listed.
-use Rattle.std.proofs.Common.{◌≡◌, ℕ, ◌+◌, ◌-◌, ◌*◌, ◌/◌, ◌<◌, ◌≤◌, min, ◌⊎◌, inl, inr, List, [], ◌∷◌, ◌++◌, length, take, drop, Some, slice_get, sym, ap, ◌∙◌, ⊎_elim, arith}
+use Rattle.std.proofs.Common.{◌≡◌, ℕ, ◌+◌, ◌-◌, ◌*◌, ◌^◌, ◌<◌, ◌≤◌, min, ◌⊎◌, inl, inr, List, [], ◌∷◌, ◌++◌, length, take, drop, sym, ap, ◌∙◌, ⊎_elim, arith}
 use Rattle.std.specs.Int.{div_ceil}
-use Rattle.std.proofs.Math.Nat.{mul-le-mul_right, div-mul-le_self}
+use Rattle.std.proofs.Math.Nat.{mul-le-mul_right}
 use Rattle.std.proofs.Math.Seq.{take-nil}
 use Rattle.std.proofs.lemmas.Bool.{cases_lt}
 use Rattle.std.proofs.lemmas.List.{append-nil, take_all, drop_all, take-append-drop}
 use Rattle.std.proofs.lemmas.Grind.{flat_map-append, div_ceil_times}
 use Rattle.rv_spec.specs.Trace.{Row}
-use Rattle.rv_spec.specs.Record.{Shard, Parts}
+use Rattle.rv_spec.specs.Record.{Shard, Parts, shard_rows}
 use Rattle.rv_spec.specs.Grammar.{PartsFit}
 use Rattle.rv_text.specs.Listing.{lines_from, listing}
 use Rattle.rv_text.specs.Within.{lines_within}
-use Rattle.rv_text.proofs.Within.{within-append, within-before, within-after, within-is}
-use Rattle.rv_text.proofs.Shards.{rows_in, rows_most, rows_before, rows_exact, shard_at, sized}
+use Rattle.rv_text.proofs.Within.{within-append, within-after, within-is}
+use Rattle.rv_text.proofs.Shards.{rows_in, rows_most, rows_exact, sized, BeginsWith}
 
 module _ (p : Parts) (fit : PartsFit p) (from until : ℕ) where
   -- the lines of the first shards
@@ -22,20 +22,15 @@ module _ (p : Parts) (fit : PartsFit p) (from until : ℕ) where
   exact : (k : ℕ) → k < length p.shards → length (rows_in (take k p.shards)) ≡ k * p.header.size
   exact k lt = rows_exact p.header 0 p.shards k fit.shards lt (let more : k * p.header.size < p.header.steps = (sized p fit).less k (omega (arith, fit.count)) in omega arith)
 
-  pub shards_before : (k : ℕ) → k * p.header.size ≤ from → listed k ≡ []
-  shards_before k le = within-before p.header.version from until 0 (rows_in (take k p.shards)) (omega (arith, rows_before p.header 0 p.shards k fit.shards))
-
-  pub shard_step : (k : ℕ) (text text' : List ℕ) → k < length p.shards → text ≡ listed k
-      → ((s : Shard) → slice_get p.shards k ≡ Some s → text' ≡ text ++ lines_within p.header.version from until (k * p.header.size) s.rows)
+  pub shard_step : (k : ℕ) (rest text text' : List ℕ) (s : Shard) → k < length p.shards → BeginsWith p k rest s → text ≡ listed k
+      → text' ≡ text ++ lines_within p.header.version from until (k * p.header.size) s.rows
       → text' ≡ listed (k + 1)
-  shard_step k text text' lt e more =
-      let at = shard_at p.header 0 p.shards k lt fit.shards in
-      let s : Shard = at.0 in
+  shard_step k rest text text' s lt at e more =
       let before : List Row = rows_in (take k p.shards) in
       let rows : rows_in (take (k + 1) p.shards) ≡ before ++ s.rows =
-      ap rows_in at.1.front ∙ flat_map-append (λ (t : Shard). t.rows) (take k p.shards) (s ∷ []) ∙ ap (λ l. before ++ l) (append-nil s.rows) in
+      ap rows_in at.front ∙ flat_map-append (λ (t : Shard). t.rows) (take k p.shards) (s ∷ []) ∙ ap (λ l. before ++ l) (append-nil s.rows) in
       let place : 0 + length before ≡ k * p.header.size = omega (arith, exact k lt) in
-      more s at.1.found
+      more
       ∙ ap (λ t. t ++ lines_within p.header.version from until (k * p.header.size) s.rows) e
       ∙ ap (λ n. listed k ++ lines_within p.header.version from until n s.rows) (sym place)
       ∙ sym (within-append p.header.version from until 0 before s.rows)
@@ -63,12 +58,7 @@ module _ (p : Parts) (fit : PartsFit p) (from until : ℕ) where
       (λ le. all_listed k le)
       (cases_lt k (length p.shards))
 
-  -- the loop begins with the shard of the first step that is asked for, and ends behind that of the last one
-  pub first_listed : (k : ℕ) → k ≤ from / p.header.size → listed k ≡ []
-  first_listed k le =
-      let most : k * p.header.size ≤ from / p.header.size * p.header.size = mul-le-mul_right p.header.size le in
-      shards_before k (omega (arith, most, div-mul-le_self from p.header.size))
-
+  -- the loop ends behind the shard of the last step that is asked for
   pub last_listed : (k : ℕ) → min (div_ceil until p.header.size) p.header.shards ≤ k → listed k ≡ lines_within p.header.version from until 0 (rows_in p.shards)
   last_listed k le = ⊎_elim
       (λ lt.
@@ -77,6 +67,13 @@ module _ (p : Parts) (fit : PartsFit p) (from until : ℕ) where
       shards_end k (inr (omega (arith, most, ceil.0))))
       (λ past. shards_end k (inl past))
       (cases_lt k (length p.shards))
+
+-- the rows of a shard end with the steps
+pub steps_within : (p : Parts) (k : ℕ) → PartsFit p → k < length p.shards → k * p.header.size + shard_rows p.header.size p.header.steps k ≤ 2 ^ 32
+steps_within p k fit lt =
+    let whole = sized p fit in
+    let less : k * p.header.size < p.header.steps = whole.less k (omega (arith, fit.count)) in
+    omega (arith, less, whole.within)
 
 -- ---- by number
 

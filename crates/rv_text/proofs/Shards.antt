@@ -1,5 +1,5 @@
 -- Where the rows of each shard lie among all rows.
-use Rattle.std.proofs.Common.{◌≡◌, ℕ, zero, suc, ◌+◌, ◌-◌, ◌*◌, ◌<◌, ◌≤◌, List, [], ◌∷◌, ◌++◌, length, take, drop, Some, slice_get, ◌^◌, refl, sym, ap, subst, ◌∙◌, append_assoc, length-append, arith}
+use Rattle.std.proofs.Common.{◌≡◌, ℕ, zero, suc, ◌+◌, ◌-◌, ◌*◌, ◌<◌, ◌≤◌, List, [], ◌∷◌, ◌++◌, length, take, drop, ◌^◌, refl, sym, ap, subst, ◌∙◌, append_assoc, length-append, arith}
 use Rattle.std.specs.List.{flat_map}
 use Rattle.std.proofs.Math.Nat.{mul-le-mul_right}
 use Rattle.std.proofs.lemmas.Grind.{div_ceil_times}
@@ -8,8 +8,11 @@ use Rattle.rv_spec.specs.Trace.{Row}
 use Rattle.rv_base.specs.declared.record.ShardHead.{ShardHead}
 use Rattle.std.proofs.lemmas.List.{drop_at}
 use Rattle.rv_spec.specs.Digest.{set_digest_bytes}
-use Rattle.rv_spec.specs.Record.{Shard, Parts, head_bytes, row_bytes, shard_bytes}
+use Rattle.rv_spec.specs.Record.{Shard, Parts, head_bytes, row_bytes, shard_bytes, table_bytes}
 use Rattle.rv_spec.specs.Grammar.{ShardFits, ShardsFit, PartsFit}
+use Rattle.rv_rules.specs.Reading.{head_of}
+use Rattle.rv_file.specs.Parsing.{shard_size}
+use Rattle.rv_file.proofs.Lemmas.{IsShard, is_shard, first_head}
 
 abbrev pub rows_in : List Shard → List Row
 rows_in ss = flat_map (λ s. s.rows) ss
@@ -19,13 +22,6 @@ pub rows_most : (h : Header) (i : ℕ) (ss : List Shard) → ShardsFit h i ss �
 rows_most h i [] fit = omega arith
 rows_most h i (s ∷ ss) fit =
     omega (arith, length-append s.rows (rows_in ss), rows_most h (i + 1) ss fit.1, fit.0.count, fit.0.rows)
-
--- no more than a shard's size in each shard
-pub rows_before : (h : Header) (i : ℕ) (ss : List Shard) (k : ℕ) → ShardsFit h i ss → length (rows_in (take k ss)) ≤ k * h.size
-rows_before h i ss zero fit = omega arith
-rows_before h i [] (suc k) fit = omega arith
-rows_before h i (s ∷ ss) (suc k) fit =
-    omega (arith, length-append s.rows (rows_in (take k ss)), rows_before h (i + 1) ss k fit.1, fit.0.count, fit.0.rows)
 
 -- each shard but the last is full
 pub rows_exact : (h : Header) (i : ℕ) (ss : List Shard) (k : ℕ) → ShardsFit h i ss → k < length ss → (i + k) * h.size < h.steps → length (rows_in (take k ss)) ≡ k * h.size
@@ -37,24 +33,24 @@ rows_exact h i (s ∷ ss) (suc k) fit lt more =
 
 -- a shard at a place
 pub record ShardAt (h : Header) (ss : List Shard) (i j : ℕ) (s : Shard) : Type 0 where
-  pub found : slice_get ss j ≡ Some s
   pub fits : ShardFits h (i + j) s
   pub front : take (j + 1) ss ≡ take j ss ++ s ∷ []
+  pub behind : drop j ss ≡ s ∷ drop (j + 1) ss
 
 pub shard_at : (h : Header) (i : ℕ) (ss : List Shard) (j : ℕ) → j < length ss → ShardsFit h i ss → (s : Shard) × ShardAt h ss i j s
 shard_at h i [] j lt fit = absurd (omega arith)
 shard_at h i (s ∷ ss) zero lt fit =
     let same : i ≡ i + 0 = omega arith in
-    (s, record { found = refl; fits = subst (λ k. ShardFits h k s) same fit.0; front = refl })
+    (s, record { fits = subst (λ k. ShardFits h k s) same fit.0; front = refl; behind = refl })
 shard_at h i (s ∷ ss) (suc j) lt fit =
     let more = shard_at h (i + 1) ss j (omega arith) fit.1 in
     let same : i + 1 + j ≡ i + suc j = omega arith in
     let next : suc j + 1 ≡ suc (j + 1) = omega arith in (
       more.0,
       record {
-        found = more.1.found;
         fits = subst (λ k. ShardFits h k more.0) same more.1.fits;
         front = ap (λ k. take k (s ∷ ss)) next ∙ ap (λ t. s ∷ t) more.1.front;
+        behind = more.1.behind ∙ ap (λ k. more.0 ∷ drop k (s ∷ ss)) (sym next);
       },
     )
 
@@ -83,11 +79,48 @@ length-head : (h : ShardHead) → length (head_bytes h) ≡ 32
 unfolding head_bytes
 length-head h = refl
 
--- the rows lie behind the head
-pub head_apart : (s : Shard) → (32 ≤ length (shard_bytes s)) × (drop 32 (shard_bytes s) ≡ flat_map row_bytes s.rows ++ (set_digest_bytes s.reads ++ set_digest_bytes s.writes))
+-- ---- a shard at the front of bytes
+
+abbrev pub digests : Shard → List ℕ
+digests s = set_digest_bytes s.reads ++ set_digest_bytes s.writes
+
+-- its rows lie behind its head
+pub rows_behind_head : (s : Shard) (tail : List ℕ) → drop 32 (shard_bytes s ++ tail) ≡ flat_map row_bytes s.rows ++ (digests s ++ tail)
 unfolding shard_bytes
-head_apart s =
-    let rows = flat_map row_bytes s.rows in
-    let tail = set_digest_bytes s.reads ++ set_digest_bytes s.writes in
-    let is : shard_bytes s ≡ head_bytes s.head ++ (rows ++ tail) = simp append_assoc in
-    (omega (arith, ap length is, length-append (head_bytes s.head) (rows ++ tail), length-head s.head), ap (λ (l : List ℕ). drop 32 l) is ∙ drop_at (head_bytes s.head) (rows ++ tail) 32 (length-head s.head))
+rows_behind_head s tail =
+    let behind = flat_map row_bytes s.rows ++ (digests s ++ tail) in
+    let is : shard_bytes s ++ tail ≡ head_bytes s.head ++ behind = simp append_assoc in
+    ap (λ (l : List ℕ). drop 32 l) is ∙ drop_at (head_bytes s.head) behind 32 (length-head s.head)
+
+-- what lies behind shard k in the body of a file
+abbrev pub behind : Parts → ℕ → List ℕ
+behind p k = flat_map shard_bytes (drop (k + 1) p.shards) ++ table_bytes p.table
+
+-- The bytes begin with shard k, and others are behind it.
+pub record BeginsWith (p : Parts) (k : ℕ) (rest : List ℕ) (s : Shard) : Type 0 where
+  pub fits : ShardFits p.header k s
+  pub front : take (k + 1) p.shards ≡ take k p.shards ++ s ∷ []
+  pub begins : rest ≡ shard_bytes s ++ behind p k
+  pub room : shard_size rest ≤ length rest
+  pub next : drop (shard_size rest) rest ≡ behind p k
+
+pub next_shard : (p : Parts) (k : ℕ) (rest : List ℕ) → PartsFit p → k < length p.shards → rest ≡ flat_map shard_bytes (drop k p.shards) ++ table_bytes p.table → (s : Shard) × BeginsWith p k rest s
+next_shard p k rest fit lt e =
+    let at = shard_at p.header 0 p.shards k lt fit.shards in
+    let s : Shard = at.0 in
+    let number : 0 + k ≡ k = omega arith in
+    let fits : ShardFits p.header k s = subst (λ n. ShardFits p.header n s) number at.1.fits in
+    let is : IsShard s = is_shard p.header k s fit.header.size.1 (omega (arith, fit.count, fit.header.shards_within)) fits in
+    let begins : rest ≡ shard_bytes s ++ behind p k =
+    e ∙ ap (λ ss. flat_map shard_bytes ss ++ table_bytes p.table) at.1.behind ∙ append_assoc (shard_bytes s) (flat_map shard_bytes (drop (k + 1) p.shards)) (table_bytes p.table) in
+    let head : head_of rest ≡ s.head = ap head_of begins ∙ first_head s (behind p k) is in
+    let size : length (shard_bytes s) ≡ shard_size rest = is.size ∙ ap (λ (h : ShardHead). 288 + h.bytes) (sym head) in (
+      s,
+      record {
+        fits = fits;
+        front = at.1.front;
+        begins = begins;
+        room = omega (arith, ap length begins, length-append (shard_bytes s) (behind p k), size);
+        next = ap (λ (xs : List ℕ). drop (shard_size rest) xs) begins ∙ drop_at (shard_bytes s) (behind p k) (shard_size rest) size;
+      },
+    )

@@ -4,8 +4,8 @@ ghost use Rattle.std.specs.Prelude.{◌≡◌, ℕ, ◌+◌, ◌*◌, ◌-◌, �
 ghost use Rattle.std.specs.Int.{div_ceil};
 ghost use Rattle.std.specs.List.{flat_map, AllByRecursion};
 ghost use Rattle.rv_spec.specs.Trace.{Row as Traced};
-ghost use Rattle.rv_spec.specs.Record.{Shard, all_rows, row_bytes, shard_rows};
-ghost use Rattle.rv_spec.specs.Grammar.{PartsFit, RowFits};
+ghost use Rattle.rv_spec.specs.Record.{Shard, row_bytes, shard_bytes, shard_rows};
+ghost use Rattle.rv_spec.specs.Grammar.{RowFits, ShardFits};
 ghost use Rattle.rv_row.specs.RowReading.{row_view};
 ghost use Rattle.rv_text.specs.Listing.{listing, hex8, word_text as word_text_of, cell_name, stamped, access_line, word_of, step_line, row_lines};
 ghost use Rattle.rv_text.specs.Within.{here, lines_within};
@@ -15,7 +15,7 @@ use arrayvec::ArrayString;
 use rv_base::cells::{REGISTER_CELLS, RESERVATION_CELL};
 use rv_base::layout::HEAD_BYTES;
 use rv_base::{Access, Header, NoMemory, Text, time_of};
-use rv_file::Parsed;
+use rv_file::{Parsed, behind_shard, rows_of};
 use rv_row::{Row, RowRead, read_row};
 use std::alloc::{AllocError, Global};
 use std::fmt::Write;
@@ -160,61 +160,52 @@ fn push_rows(
     Ok(())
 }
 
-/// The number of rows of a shard.
-fn rows_of(h: &Header, shard: u32) -> u32
-    ensures { result ≡ shard_rows h.now.size h.now.steps shard }
-{
-    let size = h.size as u64;
-    size.min(h.steps.saturating_sub(shard as u64 * size)) as u32
-}
-
-/// The rows from one step to before another of a shard.
+/// The rows from one step to before another of shard i, at the front of these bytes.
 fn push_shard(
     text: &mut String,
-    parsed: &Parsed<'_>,
+    header: &Header,
     from: u64,
     until: u64,
     i: u32,
+    bytes: &[u8],
 ) -> Result<(), AllocError>
-    requires fit { PartsFit parsed.now }
-    requires there { i < length parsed.now.shards }
-    ensures { (s : Shard) → slice_get parsed.now.shards i ≡ Some s
-        → OnOk result (string_bytes text.new ≡ string_bytes text.old ++ lines_within parsed.now.header.version from until (i * parsed.now.header.size) s.rows) }
+    requires steps { i * header.now.size + shard_rows header.now.size header.now.steps i ≤ 2 ^ 32 }
+    requires head { HEAD_BYTES ≤ length bytes.now }
+    ensures { (s : Shard) (tail : List ℕ) → ShardFits header.now i s → bytes.now ≡ shard_bytes s ++ tail
+        → OnOk result (string_bytes text.new ≡ string_bytes text.old ++ lines_within header.now.version from until (i * header.now.size) s.rows) }
 {
-    let header = parsed.header();
-    let Some(shard) = parsed.shard(i) else {
-        return Ok(());
-    };
     let first = i as u64 * header.size as u64;
+    let rows = rows_of(header, i);
+    if first + rows as u64 <= from {
+        return Ok(());
+    }
     push_rows(
         text,
         header.version,
         from,
         until,
         first,
-        rows_of(&header, i),
-        &shard[HEAD_BYTES..],
+        rows,
+        &bytes[HEAD_BYTES..],
     )
 }
 
-/// The rows from one step to before another.
-fn rows_between(
-    alloc: Global,
-    parsed: &Parsed<'_>,
-    from: u64,
-    until: u64,
-) -> Result<String, AllocError>
-    requires { PartsFit parsed.now }
-    ensures { IfOk result (λ text. string_bytes text ≡ lines_within parsed.now.header.version from until 0 (all_rows parsed.now)) }
+/// The lines of as many rows from a step on as are there. The heads of the shards before that step are gone over, and the
+/// rows of those that have one that is asked for.
+fn lines_of(alloc: Global, parsed: &Parsed<'_>, from: u64, count: u32) -> Result<String, AllocError>
+    ensures { IfOk result (λ text. string_bytes text ≡ listing parsed.now from count) }
 {
     let header = parsed.header();
-    let size = header.size as u64;
-    let shards = header.shards as u64;
-    let first = (from / size).min(shards) as u32;
-    let last = until.div_ceil(size).min(shards) as u32;
+    let mut rest = parsed.body();
     let mut text = String::new(alloc);
-    for i in first..last {
-        push_shard(&mut text, parsed, from, until, i)?;
+    if from >= header.steps {
+        return Ok(text);
+    }
+    let until = from + count as u64;
+    let shards = until.div_ceil(header.size as u64).min(header.shards as u64) as u32;
+    for i in 0..shards {
+        push_shard(&mut text, &header, from, until, i, rest)?;
+        rest = behind_shard(rest);
     }
     Ok(text)
 }
@@ -222,13 +213,9 @@ fn rows_between(
 /// The lines of as many rows of a file from a step on as are there: a line for the step, with its address, its word and the
 /// word's text, and a line for each access, with its slot, its cell, the old value with the previous time and the new value with its own time.
 pub fn explain(alloc: Global, parsed: &Parsed<'_>, from: u64, count: u32) -> Result<Text, NoMemory>
-    requires { PartsFit parsed.now }
     ensures { IfOk result (λ text. text ≡ listing parsed.now from count) }
 {
-    if from >= parsed.header().steps {
-        return Ok(Text::of(String::new(alloc)));
-    }
-    match rows_between(alloc, parsed, from, from + count as u64) {
+    match lines_of(alloc, parsed, from, count) {
         Ok(text) => Ok(Text::of(text)),
         Err(_) => Err(NoMemory),
     }

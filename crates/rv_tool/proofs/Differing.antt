@@ -1,7 +1,7 @@
 -- What the comparison of two lists answers is what the outcome of settling names.
-use Rattle.std.proofs.Common.{◌≡◌, ◌≢◌, ◌⊎◌, inl, inr, ℕ, ◌≤◌, ◌<◌, Bool, true, false, not, cond, ◌&&◌, ◌||◌, ◌==◌, List, [], ◌∷◌, ◌++◌, filter, find, Option, Some, None, nat_lt, refl, sym, ◌∙◌, ap, subst, arith, true≢false}
+use Rattle.std.proofs.Common.{◌≡◌, ◌≢◌, ◌⊎◌, inl, inr, ◌<◌, Bool, true, false, not, cond, ◌&&◌, ◌||◌, ◌==◌, List, [], ◌∷◌, ◌++◌, filter, find, Some, None, nat_lt, refl, sym, ◌∙◌, ap, subst, arith, true≢false}
 use Rattle.std.specs.List.{list_all}
-use Rattle.std.proofs.lemmas.Bool.{cases_order, false≢true, eqb-true, eqb-false, eq-eqb, lt-ltb, ltb-true}
+use Rattle.std.proofs.lemmas.Bool.{cases_order, false≢true, eqb-true, eq-eqb, lt-ltb, ltb-true}
 use Rattle.rv_base.specs.declared.record.Tuple.{Tuple}
 use Rattle.rv_rules.specs.Membership.{In}
 use Rattle.rv_rules.proofs.Lemmas.{count-in, in-left, in-right, left_true, right_true, both_true}

@@ -8,7 +8,8 @@ use Rattle.rv_spec.proofs.RecordExample.{elf}
 use Rattle.rv_host.specs.Files.{Files}
 use Rattle.rv_tool.specs.Lines.{made_line, ran_line}
 use Rattle.rv_plan.specs.Plan.{refuses}
-use Rattle.rv_tool.specs.Outcome.{outcome, ends_within}
+use Rattle.rv_trial.specs.Trials.{ends_within}
+use Rattle.rv_tool.specs.Outcome.{outcome}
 use Rattle.rv_plan.specs.declared.faults.Fault.TheVariants.{Words, Budget}
 
 abbrev shelf : List ℕ → Files

@@ -1,10 +1,13 @@
 mod Arguments
+mod CheckOfMade
 mod Checking
 mod Differing
 mod Examples
+mod Explaining
 mod Fronts
 mod Judged
 mod Listed
 mod Making
 mod Running
+mod Trying
 mod Unread

@@ -1,5 +1,5 @@
 -- The outcomes of all commands have a status of the table, and write only with success.
-use Rattle.std.proofs.Common.{◌≡◌, ℕ, List, Option, Some, None, Ok, Err, Result, nat_lt, true, false, Bool, refl, arith, if◌then◌else◌}
+use Rattle.std.proofs.Common.{ℕ, List, Option, Some, None, Ok, Err, Result, nat_lt, true, false, Bool, refl, arith, if◌then◌else◌}
 use Rattle.std.specs.Int.{div_ceil}
 use Rattle.rv_base.specs.declared.limits.TheConstants.{RECORD_LIMIT, SHARDS_LIMIT}
 use Rattle.rv_base.specs.declared.record.End.{End}
@@ -9,17 +9,18 @@ use Rattle.rv_base.specs.declared.record.Verdict.{Verdict}
 use Rattle.rv_base.specs.declared.record.Verdict.TheVariants.{Accept, Refuse}
 use Rattle.rv_spec.specs.Elf.{Image, image}
 use Rattle.rv_spec.specs.Digest.{sha_lanes}
-use Rattle.rv_spec.specs.Record.{Parts, reads, writes, record_file}
-use Rattle.rv_rules.specs.Verdict.{judge, verdict}
-use Rattle.rv_plan.specs.Plan.{Outcome, Plan, answer, refuses, read_program}
+use Rattle.rv_spec.specs.Record.{Parts, reads, writes}
+use Rattle.rv_rules.specs.Verdict.{judge, parse, verdict}
+use Rattle.rv_plan.specs.Plan.{Outcome, Plan, answer, read, read_within, refuses}
 use Rattle.rv_plan.specs.Answers.{AllListed, IsListed}
 use Rattle.rv_plan.specs.declared.faults.Limited.TheVariants as limited
-use Rattle.rv_plan.specs.declared.faults.Fault.TheVariants.{Words, Budget, Limit, NotBuilt}
+use Rattle.rv_plan.specs.declared.faults.Fault.TheVariants.{Words, Budget, Limit}
 use Rattle.rv_plan.proofs.Lemmas.{listed_answer, listed_if, listed_program, listed_read, listed_within, refusal_listed, success_listed}
-use Rattle.rv_tool.specs.CommandLine.{MakeWords, CheckWords, RunWords, CommandWords, make, check, settle, run}
+use Rattle.rv_tool.specs.CommandLine.{MakeWords, RunWords, TrialWords, CommandWords, make, check, settle, run, explain, trial}
+use Rattle.rv_trial.specs.Trials.{ends_within, budget, trial as trial_told}
+use Rattle.rv_trial.specs.declared.summary.Trial.{Trial}
 use Rattle.rv_tool.specs.Differing.{least_differing}
-use Rattle.rv_tool.specs.Lines.{made_line}
-use Rattle.rv_tool.specs.Outcome.{denies, ran, made, told_verdict, settled, settled_by, ends_within, make_plan, check_plan, settle_plan, run_plan, plan_of, plan}
+use Rattle.rv_tool.specs.Outcome.{denies, ran, made, told_verdict, settled, settled_by, explained, tried, make_plan, read_record, check_plan, settle_plan, run_plan, plan_of, plan}
 
 denied_listed : (text : List ℕ) → IsListed (denies text)
 denied_listed text = record { status = omega arith; writes = λ _. refl }
@@ -48,16 +49,29 @@ settled_listed : (elf : List ℕ) (r : Result Parts Refusal) → IsListed (settl
 settled_listed elf (Err r) = denied_listed _
 settled_listed elf (Ok p) = settled_by_listed p.header.steps (reads p) (writes (image p.header.version elf) p) (least_differing (reads p) (writes (image p.header.version elf) p))
 
+explained_listed : (from count : ℕ) (r : Result Parts Refusal) → IsListed (explained from count r)
+explained_listed from count (Err r) = denied_listed _
+explained_listed from count (Ok p) = success_listed _ refl
+
+record_listed : (held : Bool) (name : List ℕ) (next : List ℕ → Plan) → ((bytes : List ℕ) → AllListed (next bytes)) → AllListed (read_record held name next)
+record_listed held name next h = listed_if held (read_within name RECORD_LIMIT limited.Record next) (read name next) (listed_within name RECORD_LIMIT limited.Record next h) (listed_read name next h)
+
+tried_listed : (w : TrialWords) (t : Option Trial) → IsListed (tried w t)
+tried_listed w None = refusal_listed (Budget budget)
+tried_listed w (Some t) = success_listed _ refl
+
 command_listed : (c : CommandWords) → AllListed (plan_of c)
 command_listed (make w) =
     listed_program w.elf w.input (make_plan w) (λ program given. listed_answer _ (made_listed w program given (ends_within (image w.version program) given w.budget)))
 command_listed (check w) =
-    listed_if (nat_lt 1 w.workers) (answer (refuses NotBuilt)) (read_program w.elf w.input (check_plan w)) (listed_answer (refuses NotBuilt) (refusal_listed NotBuilt))
-    (listed_program w.elf w.input (check_plan w) (λ program given. listed_read w.file (λ file. answer (told_verdict (verdict sha_lanes program given file))) (λ file. listed_answer _ (verdict_listed (verdict sha_lanes program given file)))))
+    listed_program w.elf w.input (check_plan w) (λ program given. record_listed (nat_lt 1 w.workers) w.file (λ file. answer (told_verdict (verdict sha_lanes program given file))) (λ file. listed_answer _ (verdict_listed (verdict sha_lanes program given file))))
 command_listed (settle w) =
     listed_program w.elf w.input (settle_plan w) (λ program given. listed_within w.file RECORD_LIMIT limited.Record (λ file. answer (settled program (judge sha_lanes program given file))) (λ file. listed_answer _ (settled_listed program (judge sha_lanes program given file))))
 command_listed (run w) =
     listed_program w.elf w.input (run_plan w) (λ program given. listed_answer _ (ran_listed w (image w.version program) given (ends_within (image w.version program) given w.budget)))
+command_listed (explain w) =
+    listed_within w.file RECORD_LIMIT limited.Record (λ file. answer (explained w.from w.count (parse file))) (λ file. listed_answer _ (explained_listed w.from w.count (parse file)))
+command_listed (trial w) = listed_answer _ (tried_listed w (trial_told w.number w.size))
 
 pub plan_listed : (c : Option CommandWords) → AllListed (plan c)
 plan_listed None = listed_answer (refuses Words) (refusal_listed Words)

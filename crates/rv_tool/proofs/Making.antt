@@ -1,5 +1,5 @@
 -- What make does, as its plan says: the pieces of a run make its record.
-use Rattle.std.proofs.Common.{◌≡◌, ℕ, ◌+◌, ◌<◌, ◌≤◌, List, [], ◌∷◌, ◌++◌, length, map, Option, Some, None, Ok, Err, Result, IfOk, nat_lt, true, false, refl, sym, ap, subst, ◌∙◌, arith, append_assoc, append-nil, option_map, if◌then◌else◌}
+use Rattle.std.proofs.Common.{◌≡◌, ℕ, ◌+◌, ◌<◌, ◌≤◌, List, [], ◌∷◌, ◌++◌, length, Some, None, Ok, Err, Result, refl, sym, ap, subst, ◌∙◌, arith, append_assoc, append-nil, option_map, if◌then◌else◌}
 use Rattle.std.specs.List.{flat_map, range_with_len}
 use Rattle.std.specs.Int.{div_ceil}
 use Rattle.std.proofs.lemmas.Bool.{le-ltb, lt-ltb}
@@ -7,12 +7,10 @@ use Rattle.std.proofs.lemmas.Grind.{flat_map-append}
 use Rattle.rv_base.specs.declared.limits.TheConstants.{SHARDS_LIMIT}
 use Rattle.rv_base.specs.declared.record.End.{End}
 use Rattle.rv_spec.specs.Elf.{Image, image, first_fault}
-use Rattle.rv_spec.specs.Run.{run as state_of, EndsIn, GoesOn}
+use Rattle.rv_spec.specs.Run.{run as state_of}
 use Rattle.rv_spec.specs.Digest.{sha_lanes}
 use Rattle.rv_spec.specs.Record.{header, header_bytes, record_file, table_bytes}
 use Rattle.rv_spec.specs.Trace.{table}
-use Rattle.rv_elf.specs.Faults.{number_of}
-use Rattle.rv_elf.specs.declared.fault.ElfFault.{ElfFault}
 use Rattle.rv_host.specs.Views.{ShelfView}
 use Rattle.rv_book.specs.Journal.{BookState, IsWhole}
 use Rattle.rv_book.specs.declared.task.Piece.{Piece}
@@ -20,21 +18,22 @@ use Rattle.rv_replay.specs.Piece.{shard_piece}
 use Rattle.rv_book.proofs.Lemmas.{range-snoc}
 use Rattle.rv_point.specs.PointsState.{PointsState, IsSurvey}
 use Rattle.rv_point.specs.Start.{RecordIsPieces}
-use Rattle.rv_plan.specs.Plan.{Outcome, Plan, answer, refuses, read_program, with_due}
+use Rattle.rv_plan.specs.Plan.{Outcome, refuses, with_due}
 use Rattle.rv_plan.specs.Endings.{Leaves}
-use Rattle.rv_plan.specs.FileCalls.{IsUnchanged, Loads, Performs, PerformsBehind, Stops, StopsBehind, Writes}
+use Rattle.rv_plan.specs.FileCalls.{Loads, Performs, PerformsBehind, Writes}
 use Rattle.rv_plan.specs.declared.faults.Fault.{Fault}
-use Rattle.rv_plan.specs.declared.faults.Fault.TheVariants.{Words, Elf, Budget, Read, Write, Memory, Limit, NotBuilt}
+use Rattle.rv_plan.specs.declared.faults.Fault.TheVariants.{Words, Elf, Budget, Read, Write, Memory, Limit}
 use Rattle.rv_plan.specs.declared.faults.Limited.TheVariants as limited
 use Rattle.rv_plan.specs.declared.loading.Loaded.{Loaded}
 use Rattle.rv_plan.specs.declared.told.Told.{Told}
-use Rattle.rv_plan.proofs.Lemmas.{left, performs_behind, performs_done, performs_loaded, performs_torn}
+use Rattle.rv_plan.proofs.Lemmas.{performs_behind, performs_done, performs_loaded, performs_torn}
 use Rattle.rv_tool.specs.CommandLine.{MakeWords, make}
 use Rattle.rv_tool.specs.Headline.{Made}
 use Rattle.rv_tool.specs.Lines.{made_line}
-use Rattle.rv_tool.specs.Making.{HasPieces, IsNoSurvey, IsRecorded, IsTaskDue, Records, piece_due, recorded}
-use Rattle.rv_tool.specs.Outcome.{made, ends_within, make_plan, plan_of}
-use Rattle.rv_tool.proofs.Running.{found_within, none_within}
+use Rattle.rv_tool.specs.Making.{HasPieces, IsNoSurvey, IsRecorded, IsTaskDue, piece_due, recorded}
+use Rattle.rv_trial.specs.Trials.{ends_within}
+use Rattle.rv_tool.specs.Outcome.{made, make_plan, plan_of}
+use Rattle.rv_trial.proofs.Lemmas.{found_within, none_within}
 
 -- ---- lists
 
@@ -100,7 +99,6 @@ unsurveyed w elf input s s' (Limit what) h k =
           ∙ sym (ap (λ b. if b then refuses (Limit limited.Shards) else made_outcome w needs.steps needs.end (record_file sha_lanes w.version elf input w.shard needs.steps needs.end)) (lt-ltb SHARDS_LIMIT (div_ceil needs.steps w.shard) (subst (λ n. SHARDS_LIMIT < n) needs.count needs.more)))
           ∙ sym (ap (made w elf input) (found_within (image w.version elf) input needs.steps w.budget needs.end needs.ends needs.within)),
     )
-unsurveyed w elf input s s' NotBuilt h k = absurd k
 
 -- ---- the command
 

@@ -1,43 +1,19 @@
 -- What is loaded is run as the plans say.
-use Rattle.std.proofs.Common.{◌≡◌, ◌⊎◌, inl, inr, ℕ, zero, suc, ◌+◌, ◌-◌, ◌≤◌, List, [], ◌∷◌, length, Some, None, Ok, Err, false, nat_lt, refl, sym, ◌∙◌, ap, subst, arith, option_map, true, if◌then◌else◌}
+use Rattle.std.proofs.Common.{◌≡◌, ℕ, ◌-◌, ◌≤◌, List, [], ◌∷◌, length, None, Ok, sym, ◌∙◌, ap, subst}
 use Rattle.rv_base.specs.declared.record.End.{End}
 use Rattle.rv_spec.specs.Elf.{Image, image, first_fault}
-use Rattle.rv_spec.specs.Run.{run as state_of, end_at, GoesOn, EndsIn}
+use Rattle.rv_spec.specs.Run.{run as state_of, GoesOn, EndsIn}
 use Rattle.rv_host.specs.Views.{ShelfView}
 use Rattle.rv_tool.specs.CommandLine.{RunWords, run}
 use Rattle.rv_tool.specs.Lines.{ran_line}
-use Rattle.rv_plan.specs.Plan.{Outcome, answer, refuses}
-use Rattle.rv_tool.specs.Outcome.{earlier, ends_within, ran, run_plan, plan_of}
+use Rattle.rv_plan.specs.Plan.{Outcome, refuses}
+use Rattle.rv_trial.proofs.Lemmas.{found_within, none_within}
+use Rattle.rv_tool.specs.Outcome.{ran, run_plan, plan_of}
 use Rattle.rv_plan.specs.Endings.{Reaches}
 use Rattle.rv_plan.specs.FileCalls.{Loads, Stops}
-use Rattle.rv_plan.specs.declared.faults.Fault.{Fault}
 use Rattle.rv_plan.specs.declared.faults.Fault.TheVariants.{Budget}
 use Rattle.rv_plan.specs.declared.loading.Loaded.{Loaded}
 use Rattle.rv_plan.proofs.Lemmas.{left, reaches_program}
-
--- ---- the end within a budget
-
-pub none_within : (i : Image) (input : List ℕ) (n : ℕ) → GoesOn i input n → ends_within i input n ≡ None
-unfolding ends_within
-none_within i input zero on = refl
-none_within i input (suc n) on = ap (λ r. earlier r (suc n) (end_at i input n)) (none_within i input n (λ k lt. on k (omega (arith, lt)))) ∙ ap (earlier None (suc n)) (on n (omega arith))
-
-at_end : (i : Image) (input : List ℕ) (n : ℕ) (e : End) → EndsIn i input n e → ends_within i input n ≡ Some (n, e)
-unfolding ends_within
-at_end i input zero e h = absurd (omega (arith, h.some))
-at_end i input (suc n) e h =
-    let back : suc n - 1 ≡ n = omega arith in
-    ap (λ r. earlier r (suc n) (end_at i input n)) (none_within i input n (subst (GoesOn i input) back h.before)) ∙ ap (earlier None (suc n)) (subst (λ k. end_at i input k ≡ Some e) back h.last)
-
-later : (i : Image) (input : List ℕ) (n more : ℕ) (r : ℕ × End) → ends_within i input n ≡ Some r → ends_within i input (more + n) ≡ Some r
-unfolding ends_within
-later i input n zero r h = let same : n ≡ zero + n = omega arith in subst (λ k. ends_within i input k ≡ Some r) same h
-later i input n (suc more) r h =
-    let next : suc (more + n) ≡ suc more + n = omega arith in
-    subst (λ k. ends_within i input k ≡ Some r) next (ap (λ x. earlier x (suc (more + n)) (end_at i input (more + n))) (later i input n more r h))
-
-pub found_within : (i : Image) (input : List ℕ) (n budget : ℕ) (e : End) → EndsIn i input n e → n ≤ budget → ends_within i input budget ≡ Some (n, e)
-found_within i input n budget e h le = let whole : budget - n + n ≡ budget = omega (arith, le) in subst (λ b. ends_within i input b ≡ Some (n, e)) whole (later i input n (budget - n) (n, e) (at_end i input n e h))
 
 -- ---- run
 

@@ -1,5 +1,5 @@
 -- No outcome of a command is a failed read, and over files of which none fails to be read no plan ends for one.
-use Rattle.std.proofs.Common.{◌≡◌, ◌≢◌, ◌==◌, inl, inr, ℕ, List, Option, Some, None, Ok, Err, Result, nat_lt, true, false, Bool, refl, sym, ◌∙◌, subst, arith, length, if◌then◌else◌}
+use Rattle.std.proofs.Common.{◌≡◌, ◌≢◌, ◌==◌, inl, inr, ℕ, List, Option, Some, None, Ok, Err, Result, nat_lt, true, false, Bool, refl, sym, subst, length, if◌then◌else◌}
 use Rattle.std.proofs.lemmas.Bool.{eqb-false}
 use Rattle.std.specs.Int.{div_ceil}
 use Rattle.rv_base.specs.declared.limits.TheConstants.{ELF_LIMIT, INPUT_LIMIT, RECORD_LIMIT, SHARDS_LIMIT}
@@ -11,7 +11,7 @@ use Rattle.rv_base.specs.declared.record.Verdict.TheVariants.{Accept, Refuse}
 use Rattle.rv_spec.specs.Elf.{Image, image, first_fault}
 use Rattle.rv_spec.specs.Digest.{sha_lanes}
 use Rattle.rv_spec.specs.Record.{Parts, reads, writes}
-use Rattle.rv_rules.specs.Verdict.{judge, verdict}
+use Rattle.rv_rules.specs.Verdict.{judge, parse, verdict}
 use Rattle.rv_host.specs.Counts.{Rose}
 use Rattle.rv_host.specs.Files.{Files}
 use Rattle.rv_host.specs.Views.{ShelfView, SinkView}
@@ -22,10 +22,12 @@ use Rattle.rv_plan.specs.Answers.{Answers, Prints}
 use Rattle.rv_plan.specs.Answers.Prints.{whole, torn}
 use Rattle.rv_plan.specs.declared.faults.Limited.{Limited}
 use Rattle.rv_plan.specs.declared.faults.Limited.TheVariants as limited
-use Rattle.rv_plan.specs.declared.faults.Fault.TheVariants.{Words, Limit, NotBuilt}
-use Rattle.rv_tool.specs.CommandLine.{MakeWords, RunWords, CommandWords, make, check, settle, run}
+use Rattle.rv_plan.specs.declared.faults.Fault.TheVariants.{Words, Limit}
+use Rattle.rv_tool.specs.CommandLine.{MakeWords, RunWords, TrialWords, CommandWords, make, check, settle, run, explain, trial}
 use Rattle.rv_tool.specs.Differing.{least_differing}
-use Rattle.rv_tool.specs.Outcome.{ran, made, told_verdict, settled, settled_by, ends_within, make_plan, check_plan, settle_plan, run_plan, plan_of, plan}
+use Rattle.rv_trial.specs.Trials.{ends_within, trial as trial_told}
+use Rattle.rv_trial.specs.declared.summary.Trial.{Trial}
+use Rattle.rv_tool.specs.Outcome.{ran, made, told_verdict, settled, settled_by, explained, tried, make_plan, read_record, check_plan, settle_plan, run_plan, plan_of, plan}
 
 -- each outcome that a plan may reach is none of a failed read
 abbrev AllRead : Plan → Type 0
@@ -47,6 +49,9 @@ read_read name next h files o r = h r.0 files o r.2
 read_limited : (name : List ℕ) (limit : ℕ) (what : Limited) (next : List ℕ → Plan) → ((bytes : List ℕ) → AllRead (next bytes)) → AllRead (read_within name limit what next)
 read_limited name limit what next h files o r =
     read_if (nat_lt limit (length r.0)) (answer (refuses (Limit what))) (next r.0) (read_answer (refuses (Limit what)) (apart 8 refl)) (h r.0) files o r.2
+
+read_recorded : (held : Bool) (name : List ℕ) (next : List ℕ → Plan) → ((bytes : List ℕ) → AllRead (next bytes)) → AllRead (read_record held name next)
+read_recorded held name next h = read_if held (read_within name RECORD_LIMIT limited.Record next) (read name next) (read_limited name RECORD_LIMIT limited.Record next h) (read_read name next h)
 
 read_judged : (fault : Option ℕ) (p : Plan) → AllRead p → AllRead (unless_faulty fault p)
 read_judged None p h = h
@@ -80,16 +85,25 @@ settled_read : (elf : List ℕ) (r : Result Parts Refusal) → (settled elf r).s
 settled_read elf (Err r) = apart 1 refl
 settled_read elf (Ok p) = settled_by_read p.header.steps (reads p) (writes (image p.header.version elf) p) (least_differing (reads p) (writes (image p.header.version elf) p))
 
+explained_read : (from count : ℕ) (r : Result Parts Refusal) → (explained from count r).status ≢ 5
+explained_read from count (Err r) = apart 1 refl
+explained_read from count (Ok p) = apart 0 refl
+
+tried_read : (w : TrialWords) (t : Option Trial) → (tried w t).status ≢ 5
+tried_read w None = apart 4 refl
+tried_read w (Some t) = apart 0 refl
+
 command_read : (c : CommandWords) → AllRead (plan_of c)
 command_read (make w) =
     read_program_read w.elf w.input (make_plan w) (λ program given. read_answer _ (made_read w program given (ends_within (image w.version program) given w.budget)))
 command_read (check w) =
-    read_if (nat_lt 1 w.workers) (answer (refuses NotBuilt)) (read_program w.elf w.input (check_plan w)) (read_answer (refuses NotBuilt) (apart 9 refl))
-    (read_program_read w.elf w.input (check_plan w) (λ program given. read_read w.file (λ file. answer (told_verdict (verdict sha_lanes program given file))) (λ file. read_answer _ (verdict_read (verdict sha_lanes program given file)))))
+    read_program_read w.elf w.input (check_plan w) (λ program given. read_recorded (nat_lt 1 w.workers) w.file (λ file. answer (told_verdict (verdict sha_lanes program given file))) (λ file. read_answer _ (verdict_read (verdict sha_lanes program given file))))
 command_read (settle w) =
     read_program_read w.elf w.input (settle_plan w) (λ program given. read_limited w.file RECORD_LIMIT limited.Record (λ file. answer (settled program (judge sha_lanes program given file))) (λ file. read_answer _ (settled_read program (judge sha_lanes program given file))))
 command_read (run w) =
     read_program_read w.elf w.input (run_plan w) (λ program given. read_answer _ (ran_read w (image w.version program) given (ends_within (image w.version program) given w.budget)))
+command_read (explain w) = read_limited w.file RECORD_LIMIT limited.Record (λ file. answer (explained w.from w.count (parse file))) (λ file. read_answer _ (explained_read w.from w.count (parse file)))
+command_read (trial w) = read_answer _ (tried_read w (trial_told w.number w.size))
 
 plan_read : (c : Option CommandWords) → AllRead (plan c)
 plan_read None = read_answer (refuses Words) (apart 2 refl)
@@ -97,7 +111,7 @@ plan_read (Some c) = command_read c
 
 -- ---- files of which none fails to be read
 
-none_fails : (s s' : ShelfView) → ((name : List ℕ) → Rose (s.read_faults name) (s'.read_faults name) → ⊥) → (p : Plan) → ReadFails s s' p → ⊥
+pub none_fails : (s s' : ShelfView) → ((name : List ℕ) → Rose (s.read_faults name) (s'.read_faults name) → ⊥) → (p : Plan) → ReadFails s s' p → ⊥
 none_fails s s' calm (read name next) (inl rose) = calm name rose
 none_fails s s' calm (read name next) (inr rest) = none_fails s s' calm (next rest.0) rest.2
 none_fails s s' calm (answer o) h = absurd h

@@ -1,5 +1,6 @@
 -- The words of a command line, and the command that they spell (this project's own).
 use Rattle.rv_base.specs.declared.limits.TheConstants.{BUDGET_LIMIT, SHARD_SIZE_LIMIT, WORKERS_LIMIT}
+use Rattle.rv_tool.specs.declared.commands.TheConstants.{LAST_STEP, LISTED_ROWS_LIMIT, LAST_NUMBER, LEAST_SIZE, SIZE_LIMIT}
 use Rattle.std.specs.Prelude.{ℕ, ◌+◌, ◌*◌, ◌-◌, Bool, not, ◌&&◌, ◌||◌, List, [], ◌∷◌, length, fold, Option, Some, None, nat_lt, false, ◌==◌, bytes_eq, codes, slice_index, if◌then◌else◌}
 use Rattle.std.specs.List.{list_all}
 use Rattle.std.specs.Int.{is_in_range}
@@ -53,12 +54,25 @@ pub record SettleWords : Type 0 where
   pub input : List ℕ
   pub file : List ℕ
 
+-- explain RECORD FROM COUNT
+pub record ExplainWords : Type 0 where
+  pub file : List ℕ
+  pub from : ℕ
+  pub count : ℕ
+
+-- trial NUMBER SIZE
+pub record TrialWords : Type 0 where
+  pub number : ℕ
+  pub size : ℕ
+
 -- a command with its numbers read
 pub data CommandWords : Type 0 where
   make : MakeWords → CommandWords
   check : CheckWords → CommandWords
   settle : SettleWords → CommandWords
   run : RunWords → CommandWords
+  explain : ExplainWords → CommandWords
+  trial : TrialWords → CommandWords
 
 -- make with its numbers, where each is one
 abbrev pub make_words : ℕ → List ℕ → List ℕ → List ℕ → Option ℕ → Option ℕ → Option ℕ → Option CommandWords
@@ -92,6 +106,22 @@ abbrev pub run_of : ℕ → List (List ℕ) → Option CommandWords
 run_of version (elf ∷ input ∷ target ∷ budget ∷ []) = run_words version elf input target (number 1 BUDGET_LIMIT budget)
 run_of version _ = None
 
+abbrev pub explain_words : List ℕ → Option ℕ → Option ℕ → Option CommandWords
+explain_words file (Some from) (Some count) = Some (explain (record { file = file; from = from; count = count }))
+explain_words file _ _ = None
+
+abbrev pub explain_of : List (List ℕ) → Option CommandWords
+explain_of (file ∷ from ∷ count ∷ []) = explain_words file (number 0 LAST_STEP from) (number 1 LISTED_ROWS_LIMIT count)
+explain_of _ = None
+
+abbrev pub trial_words : Option ℕ → Option ℕ → Option CommandWords
+trial_words (Some number) (Some size) = Some (trial (record { number = number; size = size }))
+trial_words _ _ = None
+
+abbrev pub trial_of : List (List ℕ) → Option CommandWords
+trial_of (n ∷ size ∷ []) = trial_words (number 0 LAST_NUMBER n) (number LEAST_SIZE SIZE_LIMIT size)
+trial_of _ = None
+
 -- the command that the words spell, if they spell one
 abbrev pub command : List (List ℕ) → Option CommandWords
 command [] = None
@@ -102,7 +132,9 @@ command (name ∷ arguments) =
     else (if bytes_eq name (codes "settle") then settle_of arguments
     else (if bytes_eq name (codes "run") then run_of 1 arguments
     else (if bytes_eq name (codes "run2") then run_of 2 arguments
-    else None)))))
+    else (if bytes_eq name (codes "explain") then explain_of arguments
+    else (if bytes_eq name (codes "trial") then trial_of arguments
+    else None)))))))
 
 -- a command that is given more than one worker
 abbrev pub is_teamwork : Option CommandWords → Bool

@@ -2,13 +2,16 @@
 use Rattle.std.specs.Prelude.{◌≡◌, Option, Some, None, MatchOption, ⊤}
 use Rattle.std.specs.Int.{IsInRange}
 use Rattle.rv_base.specs.declared.limits.TheConstants.{BUDGET_LIMIT, SHARD_SIZE_LIMIT, WORKERS_LIMIT}
-use Rattle.rv_tool.specs.CommandLine.{CommandWords, MakeWords, CheckWords, SettleWords, RunWords, make, check, settle, run}
+use Rattle.rv_tool.specs.CommandLine.{CommandWords, MakeWords, CheckWords, SettleWords, RunWords, ExplainWords, TrialWords, make, check, settle, run, explain, trial}
 use Rattle.rv_tool.specs.declared.commands.Command.{Command}
 use Rattle.rv_tool.specs.declared.commands.Command.TheVariants as command
 use Rattle.rv_tool.specs.declared.commands.Make.{Make}
 use Rattle.rv_tool.specs.declared.commands.Check.{Check}
 use Rattle.rv_tool.specs.declared.commands.Settle.{Settle}
 use Rattle.rv_tool.specs.declared.commands.Run.{Run}
+use Rattle.rv_tool.specs.declared.commands.Explain.{Explain}
+use Rattle.rv_tool.specs.declared.commands.Trial.{Trial}
+use Rattle.rv_tool.specs.declared.commands.TheConstants.{LAST_STEP, LISTED_ROWS_LIMIT, LAST_NUMBER, LEAST_SIZE, SIZE_LIMIT}
 
 abbrev pub make_words : Make → MakeWords
 make_words m = record { version = m.version; elf = m.elf.now; input = m.input.now; target = m.«record».now; workers = m.workers; shard = m.shard; budget = m.budget }
@@ -22,11 +25,19 @@ settle_words c = record { elf = c.elf.now; input = c.input.now; file = c.«recor
 abbrev pub run_words : Run → RunWords
 run_words r = record { version = r.version; elf = r.elf.now; input = r.input.now; target = r.output.now; budget = r.budget }
 
+abbrev pub explain_words : Explain → ExplainWords
+explain_words e = record { file = e.«record».now; from = e.from; count = e.count }
+
+abbrev pub trial_words : Trial → TrialWords
+trial_words t = record { number = t.number; size = t.size }
+
 abbrev pub words_of : Command → CommandWords
 words_of (command.Make m) = make (make_words m)
 words_of (command.Check c) = check (check_words c)
 words_of (command.Settle c) = settle (settle_words c)
 words_of (command.Run r) = run (run_words r)
+words_of (command.Explain e) = explain (explain_words e)
+words_of (command.Trial t) = trial (trial_words t)
 
 -- what was spelled is the command, or none
 abbrev pub IsCommand : Option CommandWords → Option Command → Type 0
@@ -38,3 +49,5 @@ HasRanges (command.Make m) = IsInRange 1 2 m.version × IsInRange 1 WORKERS_LIMI
 HasRanges (command.Check c) = IsInRange 1 WORKERS_LIMIT c.workers
 HasRanges (command.Settle c) = ⊤
 HasRanges (command.Run r) = IsInRange 1 2 r.version × IsInRange 1 BUDGET_LIMIT r.budget
+HasRanges (command.Explain e) = IsInRange 0 LAST_STEP e.from × IsInRange 1 LISTED_ROWS_LIMIT e.count
+HasRanges (command.Trial t) = IsInRange 0 LAST_NUMBER t.number × IsInRange LEAST_SIZE SIZE_LIMIT t.size

@@ -1,5 +1,5 @@
 -- The least tuple at which two lists differ as multisets.
-use Rattle.std.specs.Prelude.{ℕ, Bool, not, ◌&&◌, ◌||◌, List, ◌++◌, filter, find, Option, nat_lt, ◌==◌}
+use Rattle.std.specs.Prelude.{Bool, not, ◌&&◌, ◌||◌, List, ◌++◌, filter, find, Option, nat_lt, ◌==◌}
 use Rattle.std.specs.List.{list_all}
 use Rattle.rv_base.specs.declared.record.Tuple.{Tuple}
 use Rattle.rv_spec.specs.Multiset.{count}

@@ -10,7 +10,9 @@ use Rattle.rv_rules.specs.Verdict.{verdict}
 use Rattle.rv_host.specs.Files.{Files}
 use Rattle.rv_host.specs.Views.{ShelfView}
 use Rattle.rv_plan.specs.Endings.{IsContents, IsWritten}
-use Rattle.rv_tool.specs.CommandLine.{MakeWords, CheckWords, SettleWords, CommandWords, make, check, settle, run}
+use Rattle.rv_trial.specs.Trials.{trial as trial_told, Accepted as IsAccepted}
+use Rattle.rv_trial.specs.declared.summary.Trial.{Trial}
+use Rattle.rv_tool.specs.CommandLine.{MakeWords, CheckWords, SettleWords, TrialWords, CommandWords, make, check, settle, run, explain, trial}
 
 -- the file is the record of the program's run on the input, at a version and a shard size of its own
 pub record IsRecordOfRun (elf input file : List ℕ) : Type 0 where
@@ -52,10 +54,18 @@ pub record Made (before after : ShelfView) (w : MakeWords) : Type 0 where
   pub written : IsWritten ((w.target, record_file sha_lanes w.version elf input w.shard steps end) ∷ []) before after
   pub accepted : verdict sha_lanes elf input (record_file sha_lanes w.version elf input w.shard steps end) ≡ Accept steps (div_ceil steps w.shard) end
 
+-- the run of a generated program exits with code 0, and its record is accepted
+pub record Tried (w : TrialWords) : Type 0 where
+  pub told : Trial
+  pub is : trial_told w.number w.size ≡ Some told
+  pub accepted : IsAccepted w.number w.size told
+
 -- The headline, of each command that succeeds.
 abbrev pub Headline : Option CommandWords → ShelfView → ShelfView → Type 0
 Headline (Some (make w)) before after = Made before after w
 Headline (Some (check w)) before after = Accepted before.files w
 Headline (Some (settle w)) before after = Settled before.files w
 Headline (Some (run w)) before after = ⊤
+Headline (Some (explain w)) before after = ⊤
+Headline (Some (trial w)) before after = Tried w
 Headline None before after = ⊥

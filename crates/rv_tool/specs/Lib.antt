@@ -6,3 +6,4 @@ pub mod Outcome
 pub mod Headline
 pub mod Judging
 pub mod Making
+pub mod CheckOfMade

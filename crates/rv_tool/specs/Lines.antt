@@ -3,6 +3,8 @@ use Rattle.std.specs.Prelude.{ℕ, List, [], ◌∷◌, ◌++◌, codes, decimal
 use Rattle.rv_base.specs.declared.record.End.{End}
 use Rattle.rv_base.specs.declared.record.Refusal.{Refusal}
 use Rattle.rv_base.specs.declared.record.Tuple.{Tuple}
+use Rattle.hex.specs.Hex.{encode_lower}
+use Rattle.rv_trial.specs.declared.summary.Trial.{Trial}
 use Rattle.rv_plan.specs.Lines.{line, name_at}
 
 -- a space, a name, an equals sign and a number
@@ -42,3 +44,13 @@ settled_line steps = line (codes "settled run" ++ field (codes "steps") steps)
 abbrev pub collision_line : Tuple → ℕ → ℕ → List ℕ
 collision_line t reads writes =
     line (codes "settled collision" ++ field (codes "cell") t.cell ++ field (codes "value") t.value ++ field (codes "time") t.time ++ field (codes "reads") reads ++ field (codes "writes") writes)
+
+-- a text with the counts of a trial behind it
+abbrev pub with_counts : List ℕ → Trial → List ℕ
+with_counts text t =
+    text ++ field (codes "steps") t.steps ++ field (codes "shards") t.shards ++ field (codes "accesses") t.accesses ++ field (codes "output") t.output ++ field (codes "bytes") t.bytes
+
+-- what is told of the trial of a number and a size: the record by the first 8 bytes of its SHA-512, in hexadecimal digits
+abbrev pub trial_line : ℕ → ℕ → Trial → List ℕ
+trial_line number size t =
+    line (with_counts (codes "trial" ++ field (codes "number") number ++ field (codes "size") size) t ++ codes " record=" ++ encode_lower t.«record» ++ codes " accepted")

@@ -3,7 +3,7 @@
 ghost use Rattle.std.specs.Prelude.{map, string_bytes, IfSome};
 ghost use Rattle.std.specs.Int.{IsInRange};
 ghost use Rattle.rv_tool.specs.Commands.{HasRanges, IsCommand};
-ghost use Rattle.rv_tool.specs.CommandLine.{check_of, command, make_of, run_of, settle_of};
+ghost use Rattle.rv_tool.specs.CommandLine.{check_of, command, explain_of, make_of, run_of, settle_of, trial_of};
 
 use crate::numbers::number;
 use rv_base::limits::{BUDGET_LIMIT, SHARD_SIZE_LIMIT, WORKERS_LIMIT};
@@ -15,6 +15,8 @@ pub enum Command<'a> {
     Check(Check<'a>),
     Settle(Settle<'a>),
     Run(Run<'a>),
+    Explain(Explain<'a>),
+    Trial(Trial),
 }
 
 /// `make ELF INPUT RECORD WORKERS SHARD BUDGET`: writes the record of a run. `make2` does so for version 2.
@@ -63,6 +65,39 @@ pub struct Run<'a> {
     pub budget: u32,
 }
 
+/// The greatest number of a step that can be asked for.
+pub const LAST_STEP: u32 = 4_294_967_295;
+
+/// The most rows that are listed at once.
+pub const LISTED_ROWS_LIMIT: u32 = 4096;
+
+/// The greatest number of a generated program.
+pub const LAST_NUMBER: u32 = 4_294_967_295;
+
+/// The least size of a generated program.
+pub const LEAST_SIZE: u32 = 42;
+
+/// The greatest size of a generated program.
+pub const SIZE_LIMIT: u32 = 84_000;
+
+/// `explain RECORD FROM COUNT`: lists rows of a record.
+#[derive(Clone, Copy, Debug)]
+pub struct Explain<'a> {
+    pub record: &'a str,
+    /// The step of the first row, from 0.
+    pub from: u32,
+    /// 1 to 4,096 rows.
+    pub count: u32,
+}
+
+/// `trial NUMBER SIZE`: makes and checks the record of a generated program.
+#[derive(Clone, Copy, Debug)]
+pub struct Trial {
+    pub number: u32,
+    /// 42 to 84,000, about as many steps.
+    pub size: u32,
+}
+
 /// The command that the words spell. None where they are no command, or a number is misspelled or out of its range.
 pub fn parse(words: &[String]) -> Option<Command<'_>>
     ensures command { IsCommand (command (map string_bytes words.now)) result }
@@ -78,6 +113,8 @@ pub fn parse(words: &[String]) -> Option<Command<'_>>
         "settle" => parse_settle(arguments),
         "run" => parse_run(1, arguments),
         "run2" => parse_run(2, arguments),
+        "explain" => parse_explain(arguments),
+        "trial" => parse_trial(arguments),
         _ => None,
     }
 }
@@ -149,5 +186,36 @@ fn parse_run(version: u8, arguments: &[String]) -> Option<Command<'_>>
         input: input.as_str(),
         output: output.as_str(),
         budget,
+    }))
+}
+
+fn parse_explain(arguments: &[String]) -> Option<Command<'_>>
+    ensures command { IsCommand (explain_of (map string_bytes arguments.now)) result }
+    ensures ranges { IfSome result HasRanges }
+{
+    let [record, from, count] = arguments else {
+        return None;
+    };
+    let from = number(from.as_str(), 0, LAST_STEP)?;
+    let count = number(count.as_str(), 1, LISTED_ROWS_LIMIT)?;
+    Some(Command::Explain(Explain {
+        record: record.as_str(),
+        from,
+        count,
+    }))
+}
+
+fn parse_trial(arguments: &[String]) -> Option<Command<'_>>
+    ensures command { IsCommand (trial_of (map string_bytes arguments.now)) result }
+    ensures ranges { IfSome result HasRanges }
+{
+    let [number_word, size] = arguments else {
+        return None;
+    };
+    let drawn = number(number_word.as_str(), 0, LAST_NUMBER)?;
+    let size = number(size.as_str(), LEAST_SIZE, SIZE_LIMIT)?;
+    Some(Command::Trial(Trial {
+        number: drawn,
+        size,
     }))
 }

@@ -1,6 +1,6 @@
 //! The lines of commands that did their work, and of records that are refused.
 
-ghost use Rattle.std.specs.Prelude.{◌≡◌, IfOk};
+ghost use Rattle.std.specs.Prelude.{◌≡◌, ◌++◌, IfOk, OnOk, string_bytes};
 ghost use Rattle.std.specs.Int.{IsInRange};
 ghost use Rattle.rv_base.specs.declared.rules.TheConstants.{SHORT as FIRST_RULE, TRAILING as LAST_RULE};
 ghost use Rattle.rv_plan.specs.Lines.{name_at};
@@ -9,7 +9,9 @@ ghost use Rattle.rv_tool.specs.Lines.{rule_names};
 
 use rv_base::rules::*;
 use rv_base::{End, NoMemory, Refusal, Text, Tuple};
-use std::alloc::Global;
+use rv_trial::Trial;
+use std::alloc::{AllocError, Global};
+use std::fmt::Write;
 
 /// The line of a record of so many steps, shards and bytes.
 pub fn made_line(
@@ -95,6 +97,49 @@ pub fn collision_line(
     match format!(in alloc;
         "settled collision cell={cell} value={value} time={time} reads={reads} writes={writes}\n"
     ) {
+        Ok(text) => Ok(Text::of(text)),
+        Err(_) => Err(NoMemory),
+    }
+}
+
+/// A space, a name, an equals sign and a number.
+fn push_field(text: &mut String, name: &str, n: u64) -> Result<(), AllocError>
+    ensures { OnOk result (string_bytes text.new ≡ string_bytes text.old ++ lines.field name.now n) }
+{
+    write!(text, " {name}={n}")
+}
+
+fn push_counts(text: &mut String, trial: &Trial) -> Result<(), AllocError>
+    ensures { OnOk result (string_bytes text.new ≡ lines.with_counts (string_bytes text.old) trial.now) }
+{
+    push_field(text, "steps", trial.steps)?;
+    push_field(text, "shards", u64::from(trial.shards))?;
+    push_field(text, "accesses", trial.accesses)?;
+    push_field(text, "output", trial.output)?;
+    push_field(text, "bytes", trial.bytes)
+}
+
+fn trial_text(alloc: Global, number: u32, size: u32, trial: &Trial) -> Result<String, AllocError>
+    ensures { IfOk result (λ text. string_bytes text ≡ lines.trial_line number size trial.now) }
+{
+    let digits = hex::encode(alloc, trial.record)?;
+    let mut text = String::new(alloc);
+    text.push_str("trial")?;
+    push_field(&mut text, "number", u64::from(number))?;
+    push_field(&mut text, "size", u64::from(size))?;
+    push_counts(&mut text, trial)?;
+    text.push_str(" record=")?;
+    text.push_str(digits.as_str())?;
+    text.push_str(" accepted")?;
+    text.push_str("\n")?;
+    Ok(text)
+}
+
+/// The line of the trial of a number and a size.
+pub fn trial_line(alloc: Global, number: u32, size: u32, trial: &Trial) -> Result<Text, NoMemory>
+    ensures { IfOk result (λ text. text ≡ lines.trial_line number size trial.now) }
+{
+    match trial_text(alloc, number, size, trial) {
         Ok(text) => Ok(Text::of(text)),
         Err(_) => Err(NoMemory),
     }

@@ -3,6 +3,7 @@
 
 mod check;
 mod commands;
+mod explain;
 mod judging;
 mod lines;
 mod make;
@@ -13,6 +14,7 @@ mod settle;
 #[cfg(test)]
 mod tests;
 mod top;
+mod trial;
 
 use rv_host::{OpenGate, RealShelf, RealSink};
 use rv_plan::print_no_memory;

@@ -1,18 +1,24 @@
 //! Command lines over files in memory: statuses, lines, and what the files hold afterwards.
 
 mod asking;
+mod check_of_made;
 mod checking;
 mod failing;
+mod holding;
+mod listing;
 mod making;
 mod programs;
 mod running;
 mod sharding;
+mod trying;
 
-use crate::{needs_team, tool_one};
+use crate::{needs_team, tool, tool_one};
 use programs::PROGRAM;
-use rv_host::{MemShelf, MemSink};
+use rv_host::{MemShelf, MemSink, OpenGate};
 use std::process::Abort;
+use std::sync::Wait;
 use std::test::Fail;
+use std::thread::Threads;
 
 /// The line of the record of `PROGRAM`.
 const MADE: &str = "made steps=3 shards=1 end=0 code=42 bytes=719\n";
@@ -54,6 +60,26 @@ fn expect<R: Abort + AllocGlobal>(
     Ok(())
 }
 
+/// Runs a command line of several workers, and compares its status and what it prints.
+fn expect_by_team<R: Abort + AllocGlobal + Threads + Wait + Sync>(
+    rt: &R,
+    line: &str,
+    shelf: &mut MemShelf,
+    status: u8,
+    printed: &str,
+) -> Result<(), Fail> {
+    let words = words_of(rt, line)?;
+    assert!(rt; needs_team(&words), "{line}");
+    let mut sink = MemSink::new(rt.alloc());
+    assert_eq!(rt;
+        tool(rt, rt.alloc(), &words, shelf, &mut sink, &OpenGate),
+        status,
+        "{line}"
+    );
+    assert_eq!(rt; sink.bytes(), printed.as_bytes(), "{line}");
+    Ok(())
+}
+
 #[test]
 fn words_that_are_no_command(rt: HostRuntime) -> Result<(), Fail> {
     let mut shelf = shelf_with(&rt, &PROGRAM)?;
@@ -84,6 +110,14 @@ fn words_that_are_no_command(rt: HostRuntime) -> Result<(), Fail> {
         "run elf input output 0",
         "run elf input output 1 1",
         "run3 elf input output 1",
+        "explain record 0",
+        "explain record 0 0",
+        "explain record 0 4097",
+        "explain record 4294967296 1",
+        "trial 7",
+        "trial 7 41",
+        "trial 7 84001",
+        "trial 4294967296 42",
     ];
     for line in lines {
         expect(&rt, line, &mut shelf, 2, "fault words\n")?;

@@ -8,11 +8,13 @@ ghost use Rattle.rv_tool.specs.Commands.{words_of, HasRanges};
 ghost use Rattle.rv_tool.specs.Headline.{Headline};
 ghost use Rattle.rv_tool.specs.Outcome.{plan, plan_of};
 
-use crate::check::check;
+use crate::check::{check, check_by_team};
 use crate::commands::{Command, parse};
+use crate::explain::explain;
 use crate::make::{make, make_by_team};
 use crate::run::run;
 use crate::settle::settle;
+use crate::trial::trial;
 use rv_host::{Gate, Shelf, Sink};
 use rv_plan::{Fault, Told, tell};
 use std::alloc::Global;
@@ -26,7 +28,8 @@ pub fn needs_team(words: &[String]) -> bool
     match parse(words) {
         Some(Command::Make(make)) => make.workers > 1,
         Some(Command::Check(check)) => check.workers > 1,
-        Some(Command::Settle(_) | Command::Run(_)) | None => false,
+        Some(Command::Settle(_) | Command::Run(_) | Command::Explain(_) | Command::Trial(_))
+        | None => false,
     }
 }
 
@@ -41,7 +44,6 @@ pub fn needs_team(words: &[String]) -> bool
 /// - 6: a file or the text couldn't be written
 /// - 7: want of memory
 /// - 8: a file, or what a run needs, is above its limit
-/// - 9: the program can't do this yet
 ///
 /// The words are those after the program's own name.
 pub fn tool<R: Threads + Wait + Sync, S: Shelf, K: Sink, G: Gate>(
@@ -56,10 +58,8 @@ pub fn tool<R: Threads + Wait + Sync, S: Shelf, K: Sink, G: Gate>(
     ensures headline { result ≡ 0 → Headline (command (map string_bytes words.now)) (S.view shelf.old) (S.view shelf.new) }
 {
     match parse(words) {
-        Some(Command::Make(make)) => {
-            tell(alloc, out, make_by_team(rt, alloc, &make, shelf, gate))
-        }
-        _ => answer(alloc, words, shelf, out),
+        Some(asked) => tell(alloc, out, perform_by_team(rt, alloc, &asked, shelf, gate)),
+        None => tell(alloc, out, Err(Fault::Words)),
     }
 }
 
@@ -74,22 +74,38 @@ pub fn tool_one<S: Shelf, K: Sink>(
     ensures answers { Answers (plan (command (map string_bytes words.now))) (S.view shelf.old) (S.view shelf.new) (K.view out.old) (K.view out.new) result }
     ensures headline { result ≡ 0 → Headline (command (map string_bytes words.now)) (S.view shelf.old) (S.view shelf.new) }
 {
-    answer(alloc, words, shelf, out)
-}
-
-fn answer<S: Shelf, K: Sink>(alloc: Global, words: &[String], shelf: &mut S, out: &mut K) -> u8
-    ensures answers { Answers (plan (command (map string_bytes words.now))) (S.view shelf.old) (S.view shelf.new) (K.view out.old) (K.view out.new) result }
-    ensures headline { result ≡ 0 → Headline (command (map string_bytes words.now)) (S.view shelf.old) (S.view shelf.new) }
-{
     match parse(words) {
-        Some(asked) => tell(alloc, out, perform(alloc, &asked, shelf)),
+        Some(asked) => tell(alloc, out, perform_alone(alloc, &asked, shelf)),
         None => tell(alloc, out, Err(Fault::Words)),
     }
 }
 
 /// Does the work of a command, and tells of it.
-fn perform<S: Shelf>(alloc: Global, asked: &Command<'_>, shelf: &mut S) -> Result<Told, Fault>
+fn perform_by_team<R: Threads + Wait + Sync, S: Shelf, G: Gate>(
+    rt: &R,
+    alloc: Global,
+    asked: &Command<'_>,
+    shelf: &mut S,
+    gate: &G,
+) -> Result<Told, Fault>
     requires { HasRanges asked.now }
+    ensures performs { Performs (plan_of (words_of asked.now)) (S.view shelf.old) (S.view shelf.new) result }
+    ensures headline { IfOk result (λ told. told.status ≡ 0 → Headline (Some (words_of asked.now)) (S.view shelf.old) (S.view shelf.new)) }
+{
+    match asked {
+        Command::Make(words) => make_by_team(rt, alloc, words, shelf, gate),
+        Command::Check(words) => check_by_team(rt, alloc, words, shelf, gate),
+        Command::Settle(words) => settle(alloc, words, shelf),
+        Command::Run(words) => run(alloc, words, shelf),
+        Command::Explain(words) => explain(alloc, words, shelf),
+        Command::Trial(words) => trial(alloc, words),
+    }
+}
+
+/// Does the work of a command of at most one worker, and tells of it.
+fn perform_alone<S: Shelf>(alloc: Global, asked: &Command<'_>, shelf: &mut S) -> Result<Told, Fault>
+    requires ranges { HasRanges asked.now }
+    requires alone { is_teamwork (Some (words_of asked.now)) ≡ false }
     ensures performs { Performs (plan_of (words_of asked.now)) (S.view shelf.old) (S.view shelf.new) result }
     ensures headline { IfOk result (λ told. told.status ≡ 0 → Headline (Some (words_of asked.now)) (S.view shelf.old) (S.view shelf.new)) }
 {
@@ -98,5 +114,7 @@ fn perform<S: Shelf>(alloc: Global, asked: &Command<'_>, shelf: &mut S) -> Resul
         Command::Check(words) => check(alloc, words, shelf),
         Command::Settle(words) => settle(alloc, words, shelf),
         Command::Run(words) => run(alloc, words, shelf),
+        Command::Explain(words) => explain(alloc, words, shelf),
+        Command::Trial(words) => trial(alloc, words),
     }
 }

@@ -2,17 +2,35 @@
 
 use super::programs::{PROGRAM, RECORD, of_code, spelled};
 use super::running::RESERVING;
-use super::{expect, shelf_with};
+use super::{expect, expect_by_team, shelf_with};
+use rv_host::MemShelf;
+use std::process::Abort;
+use std::sync::Wait;
 use std::test::Fail;
+use std::thread::Threads;
 
 /// The line of an accepted record of `PROGRAM`.
 const ACCEPTED: &str = "accepted steps=3 shards=1 end=0 code=42\n";
+
+/// Checks the record by one worker and by several, and compares what each tells.
+fn expect_verdict<R: Abort + AllocGlobal + Threads + Wait + Sync>(
+    rt: &R,
+    shelf: &mut MemShelf,
+    status: u8,
+    printed: &str,
+) -> Result<(), Fail> {
+    expect(rt, "check elf input record 1", shelf, status, printed)?;
+    for line in ["check elf input record 2", "check elf input record 64"] {
+        expect_by_team(rt, line, shelf, status, printed)?;
+    }
+    Ok(())
+}
 
 #[test]
 fn the_first_record_is_accepted_and_settled(rt: HostRuntime) -> Result<(), Fail> {
     let mut shelf = shelf_with(&rt, &PROGRAM)?;
     shelf.put("record", &spelled(&rt, &RECORD)?)?;
-    expect(&rt, "check elf input record 1", &mut shelf, 0, ACCEPTED)?;
+    expect_verdict(&rt, &mut shelf, 0, ACCEPTED)?;
     expect(
         &rt,
         "settle elf input record",
@@ -35,9 +53,8 @@ fn what_is_made_is_accepted(rt: HostRuntime) -> Result<(), Fail> {
         0,
         "made steps=3 shards=3 end=0 code=42 bytes=1295\n",
     )?;
-    expect(
+    expect_verdict(
         &rt,
-        "check elf input record 1",
         &mut shelf,
         0,
         "accepted steps=3 shards=3 end=0 code=42\n",
@@ -88,18 +105,41 @@ fn records_that_are_refused(rt: HostRuntime) -> Result<(), Fail> {
     ];
     for (bytes, line) in files {
         shelf.put("record", bytes)?;
-        expect(&rt, "check elf input record 1", &mut shelf, 1, line)?;
+        expect_verdict(&rt, &mut shelf, 1, line)?;
         expect(&rt, "settle elf input record", &mut shelf, 1, line)?;
     }
     shelf.put("record", &record)?;
     shelf.put("input", &[0])?;
+    expect_verdict(&rt, &mut shelf, 1, "refused shard=0 row=0 rule=4 Input\n")
+}
+
+#[test]
+fn the_earliest_place_is_told(rt: HostRuntime) -> Result<(), Fail> {
+    let mut shelf = shelf_with(&rt, &PROGRAM)?;
     expect(
         &rt,
-        "check elf input record 1",
+        "make elf input record 1 1 3",
         &mut shelf,
-        1,
-        "refused shard=0 row=0 rule=4 Input\n",
-    )
+        0,
+        "made steps=3 shards=3 end=0 code=42 bytes=1295\n",
+    )?;
+    let mut record = Vec::new(rt.alloc());
+    record.extend_from_slice(shelf.file("record").ok_or("no record")?)?;
+    // the shards begin at 173, 512 and 851
+    let changed = [
+        // the pc of the last row
+        (883, "refused shard=2 row=0 rule=11 Pc\n"),
+        // the index of the second shard
+        (512, "refused shard=1 row=0 rule=9 ShardHead\n"),
+        // the stated bytes of the first shard's row, which then end outside of the file
+        (203, "refused shard=0 row=1 rule=20 RowBytes\n"),
+    ];
+    for (at, line) in changed {
+        *record.get_mut(at).ok_or("short")? = 255;
+        shelf.put("record", &record)?;
+        expect_verdict(&rt, &mut shelf, 1, line)?;
+    }
+    Ok(())
 }
 
 #[test]
@@ -122,13 +162,24 @@ fn a_decided_record_is_read_no_further(rt: HostRuntime) -> Result<(), Fail> {
 
 #[test]
 fn each_read_that_fails(rt: HostRuntime) -> Result<(), Fail> {
+    let record = spelled(&rt, &RECORD)?;
     for nth in 1..6 {
         let mut shelf = shelf_with(&rt, &PROGRAM)?;
-        shelf.put("record", &spelled(&rt, &RECORD)?)?;
+        shelf.put("record", &record)?;
         shelf.plan_read(nth);
         expect(
             &rt,
             "check elf input record 1",
+            &mut shelf,
+            5,
+            "fault read\n",
+        )?;
+        let mut shelf = shelf_with(&rt, &PROGRAM)?;
+        shelf.put("record", &record)?;
+        shelf.plan_read(nth);
+        expect_by_team(
+            &rt,
+            "check elf input record 2",
             &mut shelf,
             5,
             "fault read\n",

@@ -4,9 +4,8 @@ ghost use Rattle.std.specs.Prelude.{◌<◌};
 
 use super::programs::{PROGRAM, RECORD, of_code, spelled, with_headers};
 use super::running::{GREETING, RESERVING};
-use super::{MADE, expect, shelf_with, words_of};
-use crate::{needs_team, tool};
-use rv_host::{MemShelf, MemSink, OpenGate};
+use super::{MADE, expect, expect_by_team, shelf_with};
+use rv_host::MemShelf;
 use std::test::Fail;
 
 #[test]
@@ -133,7 +132,14 @@ fn runs_without_a_record(rt: HostRuntime) -> Result<(), Fail> {
         "fault budget 65536\n",
     )?;
     assert!(rt; shelf.file("record").is_none());
-    Ok(())
+    // 163,841 accesses and six cells in the table
+    expect(
+        &rt,
+        "make elf input record 1 2 100000",
+        &mut shelf,
+        0,
+        "made steps=65537 shards=32769 end=1 code=0 bytes=13468239\n",
+    )
 }
 
 /// The program with one byte changed.
@@ -194,28 +200,16 @@ fn workers_make_the_same_record(rt: HostRuntime) -> Result<(), Fail> {
         "make elf input team 4 1 3",
         "make elf input team 64 1 3",
     ] {
-        let words = words_of(&rt, line)?;
-        assert!(rt; needs_team(&words), "{line}");
-        let mut sink = MemSink::new(rt.alloc());
-        let status = tool(&rt, rt.alloc(), &words, &mut shelf, &mut sink, &OpenGate);
-        assert_eq!(rt; status, 0, "{line}");
+        expect_by_team(
+            &rt,
+            line,
+            &mut shelf,
+            0,
+            "made steps=3 shards=3 end=0 code=42 bytes=1295\n",
+        )?;
         assert!(rt; shelf.file("team").is_some(), "{line}");
         assert!(rt; shelf.file("team") == shelf.file("alone"), "{line}");
     }
-    Ok(())
-}
-
-#[test]
-fn a_second_worker_of_check_is_not_built(rt: HostRuntime) -> Result<(), Fail> {
-    let words = words_of(&rt, "check elf input record 2")?;
-    assert!(rt; needs_team(&words));
-    let mut shelf = shelf_with(&rt, &PROGRAM)?;
-    // the refusal comes before a read that would fail
-    shelf.plan_read(1);
-    let mut sink = MemSink::new(rt.alloc());
-    let status = tool(&rt, rt.alloc(), &words, &mut shelf, &mut sink, &OpenGate);
-    assert_eq!(rt; status, 9);
-    assert_eq!(rt; sink.bytes(), b"fault notbuilt\n".as_slice());
     Ok(())
 }
 

@@ -1,4 +1,4 @@
-use Rattle.std.proofs.Common.{◌≡◌, ◌-◌, ◌+◌, ◌<◌, ◌≤◌, ℕ, List, [], ◌++◌, length, map, Some, None, refl, sym, ap, ◌∙◌, arith}
+use Rattle.std.proofs.Common.{◌≡◌, ◌-◌, ◌+◌, ◌≤◌, ℕ, List, [], ◌++◌, length, map, Some, None, sym, ap, ◌∙◌, arith}
 use Rattle.std.proofs.lemmas.Result.{err_from_is_err_and}
 use Rattle.rv_spec.specs.Tuples.{tuple_read, tuple_written}
 use Rattle.rv_file.specs.Parsing.{behind_shards}
@@ -7,7 +7,7 @@ use Rattle.rv_judge.specs.Alone.{read_alone}
 use Rattle.rv_panel.specs.Pieces.{piece_of}
 use Rattle.rv_panel.specs.Chaining.{subject_of, verdict_from}
 use Rattle.rv_panel.proofs.StartLaws.{behind_zero}
-use Rattle.rv_panel.proofs.ChainLaws.{IsPieceAt, goes, piece_refuses, link_refuses, counted, counted_all, in_book, is_found, next_rest, digests_more}
+use Rattle.rv_panel.proofs.ChainLaws.{goes, piece_refuses, link_refuses, counted, counted_all, in_book, is_found, next_rest, digests_more}
 use Rattle.rv_panel.proofs.chain.chain_shards.Goals as goal
 
 pub loop-i-init : goal.loop-i-init

@@ -1,4 +1,4 @@
-use Rattle.std.proofs.Common.{◌≡◌, ◌∙◌, map, refl, sym}
+use Rattle.std.proofs.Common.{◌∙◌, map, refl, sym}
 use Rattle.rv_spec.specs.Tuples.{tuple_last, tuple_read, tuple_written}
 use Rattle.rv_reading.specs.Machine.{first_tuple}
 use Rattle.rv_panel.specs.Chaining.{subject_of}

@@ -1,4 +1,4 @@
-use Rattle.std.proofs.Common.{◌≡◌, ◌∙◌, ◌<◌, ◌≤◌, ◌+◌, ℕ, List, drop, length, refl, sym, ap, subst, arith}
+use Rattle.std.proofs.Common.{◌≡◌, ◌∙◌, ◌<◌, ◌≤◌, ℕ, drop, length, refl, sym, ap, subst, arith}
 use Rattle.std.proofs.lemmas.List.{length-take-le, length-drop}
 use Rattle.rv_base.specs.declared.record.Refusal.{Refusal}
 use Rattle.rv_base.specs.declared.record.Verdict.TheVariants.{Refuse}
@@ -6,7 +6,6 @@ use Rattle.rv_spec.specs.Elf.{Image}
 use Rattle.rv_spec.specs.Words.{u32_at}
 use Rattle.rv_file.specs.Parsing.{behind_shards}
 use Rattle.rv_book.specs.Journal.{IsWhole}
-use Rattle.rv_judge.specs.Subject.{Subject}
 use Rattle.rv_panel.specs.Checking.{Shards}
 use Rattle.rv_panel.specs.Pieces.{shard_piece}
 use Rattle.rv_panel.specs.Chaining.{subject_of}

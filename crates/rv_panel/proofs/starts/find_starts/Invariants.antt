@@ -1,4 +1,4 @@
-use Rattle.std.proofs.Common.{◌≡◌, ℕ, ◌<◌, ◌≤◌, length, drop, get_or}
+use Rattle.std.proofs.Common.{◌≡◌, ℕ, ◌<◌, length, drop, get_or}
 use Rattle.rv_file.specs.Parsing.{behind_shards}
 use Rattle.rv_panel.proofs.starts.find_starts.Given as goal
 

@@ -1,5 +1,5 @@
-use Rattle.std.proofs.Common.{◌≡◌, ◌≤◌, ◌+◌, [], List, ℕ, length, take, Some, refl, sym, subst, arith}
-use Rattle.rv_host.specs.Files.{Files, file}
+use Rattle.std.proofs.Common.{◌≡◌, ◌≤◌, [], List, ℕ, length, take, refl, subst, arith}
+use Rattle.rv_host.specs.Files.{file}
 use Rattle.rv_plan.proofs.Plans.{contents_above, contents_within}
 use Rattle.rv_plan.proofs.loading.read_within.Goals as goal
 

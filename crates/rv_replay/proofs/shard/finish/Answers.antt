@@ -1,6 +1,4 @@
-use Rattle.std.proofs.Common.{◌≡◌, ◌+◌, ◌-◌, ◌≤◌, ◌++◌, drop, length, sym, ◌∙◌, ap, refl, arith}
-use Rattle.rv_base.specs.declared.record.Place.{Place}
-use Rattle.rv_base.specs.declared.record.ShardHead.{ShardHead}
+use Rattle.std.proofs.Common.{◌≡◌, ◌+◌, ◌-◌, ◌++◌, drop, length, ◌∙◌, arith}
 use Rattle.rv_base.specs.declared.layout.TheConstants.{HEAD_BYTES}
 use Rattle.rv_spec.specs.Digest.{set_digest_bytes}
 use Rattle.rv_spec.specs.Record.{head_bytes}

@@ -4,7 +4,7 @@ use Rattle.rv_book.specs.declared.task.Piece.{Piece}
 use Rattle.rv_spec.specs.Words.{AreBytes}
 use Rattle.rv_rules.specs.Agreement.{IsProgram}
 use Rattle.rv_point.specs.declared.start.ShardStart.{ShardStart}
-use Rattle.rv_point.specs.Start.{shard_start, piece}
+use Rattle.rv_point.specs.Start.{piece}
 use Rattle.rv_replay.specs.Piece.{piece_of, piece_view}
 use Rattle.rv_replay.proofs.MakingLaws.{own-made, own-start}
 use Rattle.rv_replay.proofs.shard.replay_start.Goals as goal

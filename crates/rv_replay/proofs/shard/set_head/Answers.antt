@@ -1,4 +1,4 @@
-use Rattle.std.proofs.Common.{length, take, arith}
+use Rattle.std.proofs.Common.{arith}
 use Rattle.std.proofs.lemmas.List.{length-take}
 use Rattle.rv_replay.proofs.shard.set_head.Goals as goal
 

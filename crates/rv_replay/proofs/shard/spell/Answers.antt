@@ -1,6 +1,5 @@
-use Rattle.std.proofs.Common.{◌≡◌, ℕ, ◌+◌, ◌++◌, List, [], length, take, drop, sym, ◌∙◌, ap, arith}
+use Rattle.std.proofs.Common.{◌≡◌, ℕ, ◌+◌, ◌++◌, List, length, take, drop, ◌∙◌, ap, arith}
 use Rattle.std.proofs.lemmas.Grind.{common_steps}
-use Rattle.std.proofs.lemmas.List.{length-append, length-drop}
 use Rattle.rv_base.specs.declared.layout.TheConstants.{HEAD_BYTES}
 use Rattle.rv_spec.specs.Record.{head_bytes}
 use Rattle.rv_spec.specs.Digest.{set_digest_bytes}

@@ -1,4 +1,4 @@
-use Rattle.std.proofs.Common.{◌≡◌, ◌∙◌, ap, List, ℕ, subst, sym}
+use Rattle.std.proofs.Common.{◌∙◌, ap, List, ℕ, subst, sym}
 use Rattle.rv_spec.specs.Digest.{sha_lanes}
 use Rattle.rv_rules.specs.Verdict.{verdict}
 use Rattle.rv_judge.specs.Conclusions.{IsSound}

@@ -1,4 +1,4 @@
-use Rattle.std.proofs.Common.{◌≡◌, ◌≢◌, ◌≤◌, ◌++◌, [], not, refl, ap, ◌∙◌, arith, length, take}
+use Rattle.std.proofs.Common.{◌≢◌, ◌≤◌, ◌++◌, [], not, refl, ap, ◌∙◌, arith, length, take}
 use Rattle.std.proofs.lemmas.List.{length-take-le}
 use Rattle.rv_plan.proofs.Lemmas.{front_more}
 use Rattle.rv_tool.proofs.Judged.{all_read, begun, concluded, decided, fed_more, some_of}

@@ -1,4 +1,3 @@
-use Rattle.std.proofs.Common.{◌≡◌, ◌∙◌}
 use Rattle.rv_tool.specs.Commands.{make_words}
 use Rattle.rv_tool.proofs.Making.{has_pieces, within_task}
 use Rattle.rv_tool.proofs.make.record_alone.Goals as goal

@@ -1,6 +1,5 @@
-use Rattle.std.proofs.Common.{◌≡◌, ℕ, ◌++◌, sym, ap, ◌∙◌, subst, arith}
+use Rattle.std.proofs.Common.{◌≡◌, ℕ, ◌++◌, ap, ◌∙◌, arith}
 use Rattle.std.specs.List.{flat_map, range_with_len}
-use Rattle.rv_book.specs.declared.task.Piece.{Piece}
 use Rattle.rv_tool.proofs.Making.{parts_last, parts_more}
 use Rattle.rv_tool.proofs.recording.parts_of.Goals as goal
 

@@ -1,9 +1,6 @@
-use Rattle.std.proofs.Common.{◌≡◌, ◌≤◌, length, refl, arith}
-use Rattle.rv_base.specs.declared.limits.TheConstants.{OUTPUT_LIMIT}
+use Rattle.std.proofs.Common.{refl, arith}
 use Rattle.rv_rules.proofs.Lemmas.{bytes-are}
-use Rattle.rv_spec.specs.Conclusion.{HasRecord}
 use Rattle.rv_spec.specs.Elf.{image}
-use Rattle.rv_spec.specs.Run.{run}
 use Rattle.rv_spec.specs.Words.{AreBytes}
 use Rattle.rv_tool.proofs.recording.record_is_accepted.Goals as goal
 

@@ -1,8 +1,6 @@
-use Rattle.std.proofs.Common.{◌≡◌, ◌∙◌, ap, refl, sym, List, ℕ, length, Err}
-use Rattle.std.specs.Int.{div_ceil}
+use Rattle.std.proofs.Common.{refl}
 use Rattle.rv_plan.proofs.Lemmas.{handed_on}
 use Rattle.rv_tool.specs.Commands.{make_words}
-use Rattle.rv_tool.specs.Lines.{made_line}
 use Rattle.rv_tool.proofs.Making.{record_torn, record_written, text_is}
 use Rattle.rv_tool.proofs.recording.write_parts.Goals as goal
 

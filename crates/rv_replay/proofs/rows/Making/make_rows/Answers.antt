@@ -1,10 +1,9 @@
-use Rattle.std.proofs.Common.{◌≡◌, ℕ, ◌+◌, ◌≤◌, ◌++◌, List, map, length, refl, sym, ◌∙◌, ap, subst, arith}
+use Rattle.std.proofs.Common.{◌≡◌, ◌+◌, ◌≤◌, ◌++◌, List, map, length, sym, ap, subst}
 use Rattle.rv_base.specs.declared.record.Access.{Access}
 use Rattle.rv_spec.specs.Tuples.{event, tuple_read, tuple_written}
 use Rattle.rv_pairs.specs.Covers.{Covers}
 use Rattle.rv_replay.specs.declared.rows.Making.{Making}
 use Rattle.rv_spec.specs.Trace.{Row}
-use Rattle.rv_point.specs.Replays.{MakesRow}
 use Rattle.rv_replay.proofs.MakingLaws.{row-made, made-more, row-some}
 use Rattle.rv_replay.proofs.rows.Making.make_rows.Goals as goal
 

@@ -1,0 +1,11 @@
+pub mod Bounds
+pub mod ShardsOfParts
+pub mod CutLaws
+pub mod Fronts
+pub mod ShardsFollow
+pub mod ShardsSeen
+pub mod SummaryLaws
+pub mod CombineLaws
+pub mod Continuing
+pub mod JoinLaws
+pub mod HeadsOfParts

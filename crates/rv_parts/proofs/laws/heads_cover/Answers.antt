@@ -1,0 +1,5 @@
+use Rattle.rv_parts.proofs.HeadsOfParts.{heads_cover}
+use Rattle.rv_parts.proofs.laws.heads_cover.Goals as goal
+
+pub returns : goal.returns
+returns c = heads_cover

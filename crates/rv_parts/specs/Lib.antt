@@ -1,0 +1,6 @@
+pub mod Heads
+pub mod Cutting
+pub mod Alone
+pub mod Summaries
+pub mod Combining
+pub mod Joining

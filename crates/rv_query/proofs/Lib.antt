@@ -1,0 +1,11 @@
+pub mod Latest
+pub mod Trails
+pub mod Rows
+pub mod Cuts
+pub mod Early
+pub mod Uses
+pub mod TraceRows
+pub mod OwnTimes
+pub mod OfRun
+pub mod Filled
+pub mod Answered

@@ -1,0 +1,6 @@
+pub mod Spelling
+pub mod Ends
+pub mod Lemmas
+pub mod ShardLengths
+pub mod Recorded
+pub mod Told
