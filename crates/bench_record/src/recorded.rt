@@ -23,7 +23,7 @@ use std::sync::Wait;
 use std::thread::Threads;
 
 /// The pieces of a run, by one thread where there is one worker.
-pub fn pieces_of<'t, R: Threads + Wait + Sync, T: Task>(
+pub(crate) fn pieces_of<'t, R: Threads + Wait + Sync, T: Task>(
     rt: &R,
     alloc: Global,
     task: &'t T,
@@ -63,7 +63,7 @@ fn front_of(program: &Program<'_>, points: &Points<'_>) -> [u8; HEADER_BYTES] {
 }
 
 /// The record of a run, of its pieces.
-pub fn file_of<T: Task>(
+pub(crate) fn file_of<T: Task>(
     alloc: Global,
     program: &Program<'_>,
     points: &Points<'_>,
@@ -86,7 +86,7 @@ pub fn file_of<T: Task>(
 }
 
 /// The verdict, by one thread where there is one worker.
-pub fn checked<R: Threads + Wait + Sync>(
+pub(crate) fn checked<R: Threads + Wait + Sync>(
     rt: &R,
     alloc: Global,
     program: &Program<'_>,
@@ -102,7 +102,7 @@ pub fn checked<R: Threads + Wait + Sync>(
 }
 
 /// The number of accesses of the record of a run, by its length in bytes.
-pub fn accesses_of(points: &Points<'_>, file: &[u8]) -> u64 {
+pub(crate) fn accesses_of(points: &Points<'_>, file: &[u8]) -> u64 {
     let table = COUNT_BYTES + ENTRY_BYTES.wrapping_mul(points.table().len());
     let shards = (HEAD_BYTES + DIGESTS_BYTES) as u64 * u64::from(points.shards());
     let rows = (ROW_BYTES as u64).wrapping_mul(points.steps());
