@@ -6,7 +6,7 @@ ghost use Rattle.std.specs.Int.{IsInRange, div_ceil};
 use rv_base::layout::{
     ACCESS_BYTES, COUNT_BYTES, DIGESTS_BYTES, ENTRY_BYTES, HEAD_BYTES, HEADER_BYTES, ROW_BYTES,
 };
-use rv_base::limits::{SHARD_SIZE_LIMIT, WORKERS_LIMIT};
+use rv_base::limits::{SHARD_SIZE_LIMIT, SHARDS_LIMIT, WORKERS_LIMIT};
 use rv_base::{Header, NoMemory, Verdict};
 use rv_book::{Book, Task};
 use rv_digest::{Lanes, ShaLanes};
@@ -30,7 +30,7 @@ pub(crate) fn pieces_of<'t, R: Threads + Wait + Sync, T: Task>(
     shards: u32,
     workers: u32,
 ) -> Result<Book<'t, T>, NoMemory>
-    requires shards { IsInRange 1 65536 shards }
+    requires shards { IsInRange 1 SHARDS_LIMIT shards }
     requires bound { shards ≤ T.bound task.now }
     requires workers { IsInRange 1 WORKERS_LIMIT workers }
 {

@@ -3,3 +3,4 @@ pub mod Entering
 pub mod Whole
 pub mod BoardLaws
 pub mod BoardSums
+pub mod BoardSteps

@@ -1,6 +1,8 @@
 -- The board (this project's own) from which passes draw numbers, each once, and the journal of those that are done.
 use Rattle.std.specs.Prelude.{◌≡◌, ◌≤◌, ℕ, zero, suc, ◌+◌, Bool, not, ◌&&◌, ◌||◌, List, [], ◌∷◌, ◌++◌, length, replicate, IsTrue, nat_lt, nat_le, ◌==◌}
 use Rattle.std.specs.List.{list_all, list_any}
+use Rattle.rv_book.specs.declared.event.BoardEvent.{BoardEvent}
+use Rattle.rv_book.specs.declared.event.BoardEvent.TheVariants.{Claim, Deposit}
 
 -- next is the number drawn next, and each pass has a list of the numbers that it drew
 pub record Board : Type 0 where
@@ -11,11 +13,6 @@ pub record Board : Type 0 where
 -- for at least one pass
 abbrev pub initial_board : ℕ → Board
 initial_board passes = record { next = 0; drawn = replicate passes []; journal = [] }
-
--- a pass draws a number, or enters one that it drew into the journal
-pub data BoardEvent : Type 0 where
-  claim : ℕ → BoardEvent
-  deposit : ℕ → ℕ → BoardEvent
 
 -- what a pass drew
 abbrev pub drawn_by : List (List ℕ) → ℕ → List ℕ
@@ -37,12 +34,12 @@ is_journaled i es = list_any (λ e. e.1 == i) es
 
 -- A pass may claim while all that it drew is below n. It may deposit what it drew, once.
 unfoldable pub permitted : ℕ → Board → BoardEvent → Bool
-permitted n b (claim p) = nat_lt p (length b.drawn) && list_all (λ x. nat_lt x n) (drawn_by b.drawn p)
-permitted n b (deposit p i) = is_in i (drawn_by b.drawn p) && nat_lt i n && not (is_journaled i b.journal)
+permitted n b (Claim p) = nat_lt p (length b.drawn) && list_all (λ x. nat_lt x n) (drawn_by b.drawn p)
+permitted n b (Deposit p i) = is_in i (drawn_by b.drawn p) && nat_lt i n && not (is_journaled i b.journal)
 
 unfoldable pub board_after : Board → BoardEvent → Board
-board_after b (claim p) = record b { next = b.next + 1; drawn = draw b.drawn p b.next }
-board_after b (deposit p i) = record b { journal = b.journal ++ (p, i) ∷ [] }
+board_after b (Claim p) = record b { next = b.next + 1; drawn = draw b.drawn p b.next }
+board_after b (Deposit p i) = record b { journal = b.journal ++ (p, i) ∷ [] }
 
 -- the events lead from one board to another, each permitted where it comes
 abbrev pub Leads : ℕ → Board → List BoardEvent → Board → Type 0

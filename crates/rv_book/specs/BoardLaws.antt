@@ -1,7 +1,8 @@
 -- What the board keeps over every list of permitted events.
 use Rattle.std.specs.Prelude.{◌≡◌, ℕ, ◌+◌, ◌<◌, ◌≤◌, Bool, true, cond, List, IsTrue, sum_by, nat_lt, ◌==◌}
 use Rattle.std.specs.List.{list_all, range_with_len}
-use Rattle.rv_book.specs.Board.{Board, BoardEvent, Reaches, is_done, drawn_by, is_in, is_journaled}
+use Rattle.rv_book.specs.declared.event.BoardEvent.{BoardEvent}
+use Rattle.rv_book.specs.Board.{Board, Reaches, is_done, drawn_by, is_in, is_journaled}
 
 abbrev pub one : Bool → ℕ
 one b = cond b 1 0

@@ -4,6 +4,7 @@
 
 mod book;
 mod entry;
+mod event;
 pub mod machine;
 mod task;
 #[cfg(test)]
@@ -11,4 +12,5 @@ mod tests;
 
 pub use book::Book;
 pub use entry::{Deposited, Entry};
+pub use event::BoardEvent;
 pub use task::{Piece, Task};

@@ -2,6 +2,7 @@
 use Rattle.std.specs.Prelude.{ℕ, zero, suc, ◌+◌, Bool, true, false, cond, ◌&&◌, List, [], ◌∷◌, ◌++◌, Option, Some, None, sum_by, nat_lt, nat_le, ◌==◌}
 use Rattle.std.specs.List.{list_any}
 use Rattle.rv_book.specs.BoardLaws.{one, times}
+use Rattle.rv_book.specs.declared.event.BoardEvent.{BoardEvent}
 use Rattle.rv_book.specs.declared.task.Piece.{Piece}
 use Rattle.rv_claim.specs.declared.view.Deposit.{Deposit}
 use Rattle.rv_claim.specs.declared.view.Lists.{Lists}
@@ -11,7 +12,7 @@ abbrev pub kept : ℕ → Piece → Deposit
 kept p x = record { pass = p; piece = x }
 
 abbrev pub fresh : ℕ → Lists
-fresh p = record { number = p; drawn = []; deposited = []; pending = None }
+fresh p = record { number = p; drawn = []; deposited = []; pending = None; seen = [] }
 
 abbrev pub pass_view : Lists → View
 pass_view l = record { live = true; own = l; made = 0; gathered = [] }
@@ -22,15 +23,15 @@ home_view made ls = record { live = false; own = fresh 0; made = made; gathered 
 abbrev pub spent_view : View
 spent_view = home_view 0 []
 
--- what the steps do to a view
-abbrev pub draws : Lists → ℕ → Lists
-draws l x = record l { drawn = l.drawn ++ x ∷ [] }
+-- what the steps do to a view, where es are the events that the pass has then seen
+abbrev pub draws : Lists → ℕ → List BoardEvent → Lists
+draws l x es = record l { drawn = l.drawn ++ x ∷ []; seen = es }
 
 abbrev pub opens : Lists → ℕ → Lists
 opens l i = record l { pending = Some i }
 
-abbrev pub fills : Lists → ℕ → Lists
-fills l i = record l { deposited = l.deposited ++ i ∷ []; pending = None }
+abbrev pub fills : Lists → ℕ → List BoardEvent → Lists
+fills l i es = record l { deposited = l.deposited ++ i ∷ []; pending = None; seen = es }
 
 abbrev pub with_own : View → Lists → View
 with_own v l = record v { own = l }

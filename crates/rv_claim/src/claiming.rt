@@ -2,8 +2,9 @@
 
 ghost use Rattle.std.specs.Prelude.{◌≡◌, ◌↔◌, ◌⊎◌, ◌+◌, ◌≤◌, ◌<◌, ◌++◌, ℕ, true, false, [], ◌∷◌, IfSome, IfNone, IsNone};
 ghost use Rattle.rv_book.specs.Board.{is_in};
+ghost use Rattle.rv_book.specs.declared.event.BoardEvent.TheVariants.{Claim};
 ghost use Rattle.rv_claim.specs.Views.{is_past};
-ghost use Rattle.rv_claim.specs.Passes.{IsOf, IsSame, drawn_of, deposited_of, shards_of};
+ghost use Rattle.rv_claim.specs.Passes.{Happened, IsOf, IsSame, deposited_of, drawn_of, history_of, number_of, shards_of};
 
 use crate::board::Board;
 use crate::pass::Pass;
@@ -23,6 +24,8 @@ impl<T: Task> Board<T> {
             ⊎ ((x : ℕ) × (shards_of self.now ≤ x) × (drawn_of pass.new ≡ drawn_of pass.old ++ x ∷ []))) }
         ensures past { IsNone result ↔ (is_past (shards_of self.now) (drawn_of pass.new) ≡ true) }
         ensures ended { is_past (shards_of self.now) (drawn_of pass.old) ≡ true → drawn_of pass.new ≡ drawn_of pass.old }
+        ensures event { ((drawn_of pass.new ≡ drawn_of pass.old) × (history_of pass.new ≡ history_of pass.old))
+            ⊎ Happened (shards_of self.now) pass.old (Claim (number_of pass.old)) pass.new }
     {
         if pass.done {
             return None;

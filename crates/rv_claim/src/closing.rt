@@ -7,7 +7,7 @@ ghost use lib.ListN.{get_elem?};
 ghost use Rattle.rv_book.specs.Journal.{pieces_of, IsWhole};
 ghost use Rattle.rv_claim.specs.Views.{home_view};
 ghost use Rattle.rv_claim.specs.Passes.{deposited_of, shards_of, task_of, workers_of};
-ghost use Rattle.rv_claim.specs.Closing.{AreAll, AreSettled, ArePast, closing, depositor, slot_by};
+ghost use Rattle.rv_claim.specs.Closing.{AreAll, AreSettled, ArePast, EndsAsRun, closing, depositor, slot_by};
 ghost use Rattle.rv_claim.specs.Making.{AreMade, own_of};
 
 use crate::board::Board;
@@ -37,6 +37,7 @@ impl<T: Task> Board<T> {
         ensures pieces { IfOk result (λ b. b.pieces ≡ pieces_of (T.piece task.now) (shards_of self)) }
         ensures journal { IfOk result (λ b. b.journal ≡ closing (map deposited_of passes.items) (shards_of self)) }
         ensures whole { IfOk result (λ b. ArePast self passes.items → IsWhole (T.piece task.now) (shards_of self) b) }
+        ensures run { IfOk result (λ _. EndsAsRun self passes.items) }
     {
         let shards = self.shards;
         // Once the table is closed nothing may fail, since the slots are not dropped by themselves.
@@ -55,12 +56,14 @@ impl<T: Task> Board<T> {
 // Home gathers all passes, and ends the table. Each slot then keeps what was deposited.
 fn end_table<T: Task>(board: Board<T>, mut passes: Vec<Pass>) -> Closed<Option<Deposit>, Global>
     requires passes { AreAll board passes.items }
+    requires settled { AreSettled board passes.items }
     ensures long { slots_len result.slots ≡ shards_of board }
     ensures full { IsFull result.slots }
     ensures slots { (i : ℕ) → i < shards_of board → get_elem? (slots_items result.slots) i
         ≡ some (slot_by (T.piece (task_of board)) (depositor i (map deposited_of passes.items) 0) i) }
-    ensures each { ArePast board passes.items → AreSettled board passes.items
+    ensures each { ArePast board passes.items
         → (i : ℕ) → i < shards_of board → (p : ℕ) × (depositor i (map deposited_of passes.items) 0 ≡ Some p) }
+    ensures run { EndsAsRun board passes.items }
 {
     let Board { workers, table, .. } = board;
     let Pass { seat, home, .. } = passes.remove(0);

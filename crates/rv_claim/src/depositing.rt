@@ -2,7 +2,8 @@
 
 ghost use Rattle.std.specs.Prelude.{◌≡◌, ◌<◌, ◌++◌, true, false, [], ◌∷◌};
 ghost use Rattle.rv_book.specs.Board.{is_in};
-ghost use Rattle.rv_claim.specs.Passes.{IsOf, IsSame, drawn_of, deposited_of, shards_of, task_of};
+ghost use Rattle.rv_book.specs.declared.event.BoardEvent.TheVariants.{Deposit as Deposits};
+ghost use Rattle.rv_claim.specs.Passes.{Happened, IsOf, IsSame, deposited_of, drawn_of, number_of, shards_of, task_of};
 
 use crate::board::Board;
 use crate::pass::Pass;
@@ -22,6 +23,7 @@ impl<T: Task> Board<T> {
         ensures same { IsSame pass.old pass.new }
         ensures drawn { drawn_of pass.new ≡ drawn_of pass.old }
         ensures deposited { deposited_of pass.new ≡ deposited_of pass.old ++ piece.index ∷ [] }
+        ensures event { Happened (shards_of self.now) pass.old (Deposits (number_of pass.old) piece.index) pass.new }
     {
         let slot = piece.index as usize;
         let kept = Deposit {

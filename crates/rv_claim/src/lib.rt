@@ -6,6 +6,7 @@ mod board;
 mod claiming;
 mod closing;
 mod depositing;
+pub mod laws;
 mod opening;
 mod pass;
 mod rules;

@@ -1,8 +1,8 @@
 //! The rule of the board's table, and what each kind of step tells. No value of these types is made.
 
-ghost use Rattle.std.specs.Prelude.{◌≡◌, ◌-◌, ◌+◌, false, None, Some, [], ◌∷◌};
-ghost use Rattle.rv_book.specs.Board.{is_in};
-ghost use Rattle.rv_claim.specs.Views.{draws, opens, fills, with_own, with_one_more, with_gathered, fresh, pass_view, home_view, spent_view};
+ghost use Rattle.std.specs.Prelude.{[]};
+ghost use Rattle.rv_claim.specs.Views.{with_one_more, with_gathered, fresh, pass_view, home_view, spent_view};
+ghost use Rattle.rv_claim.specs.Kinds.{IsDraw, IsOpening, IsFilling};
 
 use crate::view::{Deposit, View};
 use atomic_table::{Join, Play, Split, TableRule};
@@ -19,32 +19,32 @@ pub struct Rules<T> {
 }
 
 impl<T: Task> TableRule<Option<Deposit>, View, About<T>> for Rules<T> {
-    ghost use Rattle.rv_claim.specs.Rule.{Ruled};
+    ghost use Rattle.rv_claim.specs.History.{Kept};
 
-    ghost holds = { λ about. Ruled (T.piece about.2.value) about.0 about.1 };
+    ghost holds = { λ about. Kept (T.piece about.2.value) about.0 about.1 };
 
     ghost first = { λ about. home_view 0 [] };
 }
 
-/// A claim: the number is new to the pass.
+/// A claim.
 pub struct Draws;
 
 impl Play<Option<Deposit>, View> for Draws {
-    ghost then = { λ step me found after. (is_in found me.0.own.drawn ≡ false) × (after ≡ (with_own me.0 (draws me.0.own found), me.1)) };
+    ghost then = { IsDraw };
 }
 
-/// A slot is opened: its mark was 0, and it kept nothing.
+/// A slot is opened.
 pub struct Opens;
 
 impl Play<Option<Deposit>, View> for Opens {
-    ghost then = { λ step me found after. (found ≡ 0) × (after ≡ (with_own me.0 (opens me.0.own (step.word - 1)), (step.word - 1, None) ∷ me.1)) };
+    ghost then = { IsOpening };
 }
 
-/// A slot is filled: its mark was 1.
+/// A slot is filled.
 pub struct Fills;
 
 impl Play<Option<Deposit>, View> for Fills {
-    ghost then = { λ step me found after. (found ≡ 1) × (after ≡ (with_own me.0 (fills me.0.own (step.word - 1)), [])) };
+    ghost then = { IsFilling };
 }
 
 /// Home makes a pass.

@@ -3,3 +3,4 @@ pub mod TableRows
 pub mod FormatWords
 pub mod AtomicRows
 pub mod OneRow
+pub mod Lemmas

@@ -84,19 +84,19 @@ fits-all k w e = passes_also-all (passes k.first w) k.others w e
 abbrev clashes : List Test → List Test → Bool
 clashes xs ys = list_any (λ s. list_any (λ t. clash s t) ys) xs
 
-or_cases : (a b : Bool) → (a || b) ≡ true → (a ≡ true) ⊎ (b ≡ true)
-or_cases true b e = inl refl
-or_cases false b e = inr e
+or-cases : (a b : Bool) → (a || b) ≡ true → (a ≡ true) ⊎ (b ≡ true)
+or-cases true b e = inl refl
+or-cases false b e = inr e
 
-one_clashes : (s : Test) (ts : List Test) (w : ℕ) → list_any (λ t. clash s t) ts ≡ true → passes s w ≡ true → AllPass w ts → ⊥
-one_clashes s [] w c p all = absurd (cc)
-one_clashes s (t ∷ ts) w c p all =
-    elim (or_cases (clash s t) (list_any (λ t. clash s t) ts) c) [ inl here ↦ clash-sound s t w here p all.0 | inr later ↦ one_clashes s ts w later p all.1 ]
+one-clashes : (s : Test) (ts : List Test) (w : ℕ) → list_any (λ t. clash s t) ts ≡ true → passes s w ≡ true → AllPass w ts → ⊥
+one-clashes s [] w c p all = absurd (cc)
+one-clashes s (t ∷ ts) w c p all =
+    elim (or-cases (clash s t) (list_any (λ t. clash s t) ts) c) [ inl here ↦ clash-sound s t w here p all.0 | inr later ↦ one-clashes s ts w later p all.1 ]
 
 clashes-sound : (xs ys : List Test) (w : ℕ) → clashes xs ys ≡ true → AllPass w xs → AllPass w ys → ⊥
 clashes-sound [] ys w c p q = absurd (cc)
 clashes-sound (s ∷ xs) ys w c p q =
-    elim (or_cases (list_any (λ t. clash s t) ys) (clashes xs ys) c) [ inl here ↦ one_clashes s ys w here p.0 q | inr later ↦ clashes-sound xs ys w later p.1 q ]
+    elim (or-cases (list_any (λ t. clash s t) ys) (clashes xs ys) c) [ inl here ↦ one-clashes s ys w here p.0 q | inr later ↦ clashes-sound xs ys w later p.1 q ]
 
 -- whether each two rows clash
 abbrev are_apart : List Key → Bool
@@ -110,36 +110,36 @@ passing p (x ∷ xs) = cond (p x) (1 + passing p xs) (passing p xs)
 abbrev count : List Key → ℕ → ℕ
 count ks w = passing (λ k. fits k w) ks
 
-no_other : (k : Key) (ks : List Key) (w : ℕ) → fits k w ≡ true → list_all (λ j. clashes (tests k) (tests j)) ks ≡ true → count ks w ≡ 0
-no_other k [] w here apart = refl
-no_other k (j ∷ js) w here apart =
+no-other : (k : Key) (ks : List Key) (w : ℕ) → fits k w ≡ true → list_all (λ j. clashes (tests k) (tests j)) ks ≡ true → count ks w ≡ 0
+no-other k [] w here apart = refl
+no-other k (j ∷ js) w here apart =
     let both = and_parts (clashes (tests k) (tests j)) (list_all (λ i. clashes (tests k) (tests i)) js) apart in
-    by_test (fits j w) refl both.0 (no_other k js w here both.1)
+    by-test (fits j w) refl both.0 (no-other k js w here both.1)
   where
-    by_test : (b : Bool) → fits j w ≡ b → clashes (tests k) (tests j) ≡ true → count js w ≡ 0 → count (j ∷ js) w ≡ 0
-    by_test true e c none = absurd (clashes-sound (tests k) (tests j) w c (fits-all k w here) (fits-all j w e))
-    by_test false e c none = rw e none
+    by-test : (b : Bool) → fits j w ≡ b → clashes (tests k) (tests j) ≡ true → count js w ≡ 0 → count (j ∷ js) w ≡ 0
+    by-test true e c none = absurd (clashes-sound (tests k) (tests j) w c (fits-all k w here) (fits-all j w e))
+    by-test false e c none = rw e none
 
-one_fits : (ks : List Key) (w : ℕ) → are_apart ks ≡ true → count ks w ≤ 1
-one_fits [] w apart = omega arith
-one_fits (k ∷ ks) w apart =
+one-fits : (ks : List Key) (w : ℕ) → are_apart ks ≡ true → count ks w ≤ 1
+one-fits [] w apart = omega arith
+one-fits (k ∷ ks) w apart =
     let both = and_parts (list_all (λ j. clashes (tests k) (tests j)) ks) (are_apart ks) apart in
-    by_test (fits k w) refl both.0 (one_fits ks w both.1)
+    by-test (fits k w) refl both.0 (one-fits ks w both.1)
   where
-    by_test : (b : Bool) → fits k w ≡ b → list_all (λ j. clashes (tests k) (tests j)) ks ≡ true → count ks w ≤ 1 → count (k ∷ ks) w ≤ 1
-    by_test true e c few = let none : count ks w ≡ 0 = no_other k ks w e c in rw (e, none) (omega arith)
-    by_test false e c few = rw e few
+    by-test : (b : Bool) → fits k w ≡ b → list_all (λ j. clashes (tests k) (tests j)) ks ≡ true → count ks w ≤ 1 → count (k ∷ ks) w ≤ 1
+    by-test true e c few = let none : count ks w ≡ 0 = no-other k ks w e c in rw (e, none) (omega arith)
+    by-test false e c few = rw e few
 
 -- ---- rows by their keys
 
 counted : {A : Type 0} (rows : List (Encoding A)) (ks : List Key) (w : ℕ) → map (λ (r : Encoding A). r.matches) rows ≡ map fits ks → count_by (λ r. r.matches w) rows ≡ count ks w
 counted {A} rows ks w same =
     sym (is_count_by (passing (λ r. r.matches w)) (λ (r : Encoding A). r.matches w) refl (λ x xs. refl) rows)
-    ∙ (by_map (λ (r : Encoding A). r.matches) rows ∙ (ap (passing (λ (f : ℕ → Bool). f w)) same ∙ sym (by_map fits ks)))
+    ∙ (by-map (λ (r : Encoding A). r.matches) rows ∙ (ap (passing (λ (f : ℕ → Bool). f w)) same ∙ sym (by-map fits ks)))
   where
-    by_map : {B : Type 0} (f : B → ℕ → Bool) (xs : List B) → passing (λ x. f x w) xs ≡ passing (λ (g : ℕ → Bool). g w) (map f xs)
-    by_map f [] = refl
-    by_map f (x ∷ xs) = ap (λ (n : ℕ). cond (f x w) (1 + n) n) (by_map f xs)
+    by-map : {B : Type 0} (f : B → ℕ → Bool) (xs : List B) → passing (λ x. f x w) xs ≡ passing (λ (g : ℕ → Bool). g w) (map f xs)
+    by-map f [] = refl
+    by-map f (x ∷ xs) = ap (λ (n : ℕ). cond (f x w) (1 + n) n) (by-map f xs)
 
 opcode_key : ℕ → Key
 opcode_key o = record { first = on_opcode o; others = [] }
@@ -185,16 +185,16 @@ rv32a_keys-match : map (λ (r : Encoding Atomic). r.matches) rv32a_table ≡ map
 unfolding rv32a_table rv32a_keys amo_key
 rv32a_keys-match = refl
 
-rv32im_apart : are_apart rv32im_keys ≡ true
+rv32im-apart : are_apart rv32im_keys ≡ true
 unfolding rv32im_keys opcode_key funct3_key funct7_key word_key
-rv32im_apart = refl
+rv32im-apart = refl
 
-rv32a_apart : are_apart rv32a_keys ≡ true
+rv32a-apart : are_apart rv32a_keys ≡ true
 unfolding rv32a_keys amo_key
-rv32a_apart = refl
+rv32a-apart = refl
 
 pub rv32im-one_row : (w : ℕ) → FitsOneRow rv32im_table w
-rv32im-one_row w = rw (counted rv32im_table rv32im_keys w rv32im_keys-match) (one_fits rv32im_keys w rv32im_apart)
+rv32im-one_row w = rw (counted rv32im_table rv32im_keys w rv32im_keys-match) (one-fits rv32im_keys w rv32im-apart)
 
 pub rv32a-one_row : (w : ℕ) → FitsOneRow rv32a_table w
-rv32a-one_row w = rw (counted rv32a_table rv32a_keys w rv32a_keys-match) (one_fits rv32a_keys w rv32a_apart)
+rv32a-one_row w = rw (counted rv32a_table rv32a_keys w rv32a_keys-match) (one-fits rv32a_keys w rv32a-apart)

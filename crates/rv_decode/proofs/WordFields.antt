@@ -35,17 +35,17 @@ r_type-own w h = omega arith
 
 -- ---- the parts of an immediate n, in the fields of a word and back
 
-pub i_bits : (w n : ℕ) → rs2 w ≡ n % 2 ^ 5 → funct7 w ≡ bits_of 5 7 n → bits_of 20 12 w ≡ n % 2 ^ 12
-i_bits w n low high = omega arith
+pub i-bits : (w n : ℕ) → rs2 w ≡ n % 2 ^ 5 → funct7 w ≡ bits_of 5 7 n → bits_of 20 12 w ≡ n % 2 ^ 12
+i-bits w n low high = omega arith
 
-pub s_bits : (w n : ℕ) → rd w ≡ n % 2 ^ 5 → funct7 w ≡ bits_of 5 7 n → bits_of 25 7 w * 2 ^ 5 + bits_of 7 5 w ≡ n % 2 ^ 12
-s_bits w n low high = omega arith
+pub s-bits : (w n : ℕ) → rd w ≡ n % 2 ^ 5 → funct7 w ≡ bits_of 5 7 n → bits_of 25 7 w * 2 ^ 5 + bits_of 7 5 w ≡ n % 2 ^ 12
+s-bits w n low high = omega arith
 
 abbrev pub b_number : ℕ → ℕ
 b_number w = bits_of 31 1 w * 2 ^ 12 + bits_of 7 1 w * 2 ^ 11 + bits_of 25 6 w * 2 ^ 5 + bits_of 8 4 w * 2
 
-pub b_bits : (w n : ℕ) → rd w ≡ bits_of 1 4 n * 2 + bits_of 11 1 n → funct7 w ≡ bits_of 12 1 n * 2 ^ 6 + bits_of 5 6 n → n % 2 ≡ 0 → b_number w ≡ n % 2 ^ 13
-b_bits w n low high even = omega arith
+pub b-bits : (w n : ℕ) → rd w ≡ bits_of 1 4 n * 2 + bits_of 11 1 n → funct7 w ≡ bits_of 12 1 n * 2 ^ 6 + bits_of 5 6 n → n % 2 ≡ 0 → b_number w ≡ n % 2 ^ 13
+b-bits w n low high even = omega arith
 
 abbrev pub j_number : ℕ → ℕ
 j_number w = bits_of 31 1 w * 2 ^ 20 + bits_of 12 8 w * 2 ^ 12 + bits_of 20 1 w * 2 ^ 11 + bits_of 21 10 w * 2
@@ -58,31 +58,31 @@ pub record JumpFields (w o d n : ℕ) : Type 0 where
   pub rd_is : rd w ≡ d
   pub number_is : j_number w ≡ n % 2 ^ 21
 
-pub j_fields : (o d n : ℕ) → o < 2 ^ 7 → d < 2 ^ 5 → n % 2 ≡ 0 → JumpFields (j_word o d n) o d n
-j_fields o d n ho hd even = record { opcode_is = omega arith; rd_is = omega arith; number_is = omega arith }
+pub j-fields : (o d n : ℕ) → o < 2 ^ 7 → d < 2 ^ 5 → n % 2 ≡ 0 → JumpFields (j_word o d n) o d n
+j-fields o d n ho hd even = record { opcode_is = omega arith; rd_is = omega arith; number_is = omega arith }
 
 pub record UpperFields (w o d n : ℕ) : Type 0 where
   pub opcode_is : opcode w ≡ o
   pub rd_is : rd w ≡ d
   pub upper_is : imm_u w ≡ n
 
-pub u_fields : (o d n : ℕ) → o < 2 ^ 7 → d < 2 ^ 5 → n < 2 ^ 32 → n % 2 ^ 12 ≡ 0 → UpperFields (u_type o d n) o d n
-u_fields o d n ho hd small low = record { opcode_is = omega arith; rd_is = omega arith; upper_is = omega arith }
+pub u-fields : (o d n : ℕ) → o < 2 ^ 7 → d < 2 ^ 5 → n < 2 ^ 32 → n % 2 ^ 12 ≡ 0 → UpperFields (u_type o d n) o d n
+u-fields o d n ho hd small low = record { opcode_is = omega arith; rd_is = omega arith; upper_is = omega arith }
 
-pub i_own : (w n : ℕ) → w < 2 ^ 32 → n % 2 ^ 12 ≡ bits_of 20 12 w → r_type (opcode w) (rd w) (funct3 w) (rs1 w) (n % 2 ^ 5) (bits_of 5 7 n) ≡ w
-i_own w n h e = omega arith
+pub i-own : (w n : ℕ) → w < 2 ^ 32 → n % 2 ^ 12 ≡ bits_of 20 12 w → r_type (opcode w) (rd w) (funct3 w) (rs1 w) (n % 2 ^ 5) (bits_of 5 7 n) ≡ w
+i-own w n h e = omega arith
 
-pub s_own : (w n : ℕ) → w < 2 ^ 32 → n % 2 ^ 12 ≡ bits_of 25 7 w * 2 ^ 5 + bits_of 7 5 w → r_type (opcode w) (n % 2 ^ 5) (funct3 w) (rs1 w) (rs2 w) (bits_of 5 7 n) ≡ w
-s_own w n h e = omega arith
+pub s-own : (w n : ℕ) → w < 2 ^ 32 → n % 2 ^ 12 ≡ bits_of 25 7 w * 2 ^ 5 + bits_of 7 5 w → r_type (opcode w) (n % 2 ^ 5) (funct3 w) (rs1 w) (rs2 w) (bits_of 5 7 n) ≡ w
+s-own w n h e = omega arith
 
-pub b_own : (w n : ℕ) → w < 2 ^ 32 → n % 2 ^ 13 ≡ b_number w → r_type (opcode w) (bits_of 1 4 n * 2 + bits_of 11 1 n) (funct3 w) (rs1 w) (rs2 w) (bits_of 12 1 n * 2 ^ 6 + bits_of 5 6 n) ≡ w
-b_own w n h e = omega arith
+pub b-own : (w n : ℕ) → w < 2 ^ 32 → n % 2 ^ 13 ≡ b_number w → r_type (opcode w) (bits_of 1 4 n * 2 + bits_of 11 1 n) (funct3 w) (rs1 w) (rs2 w) (bits_of 12 1 n * 2 ^ 6 + bits_of 5 6 n) ≡ w
+b-own w n h e = omega arith
 
-pub u_own : (w : ℕ) → w < 2 ^ 32 → u_type (opcode w) (rd w) (imm_u w) ≡ w
-u_own w h = omega arith
+pub u-own : (w : ℕ) → w < 2 ^ 32 → u_type (opcode w) (rd w) (imm_u w) ≡ w
+u-own w h = omega arith
 
-pub j_own : (w n : ℕ) → w < 2 ^ 32 → n % 2 ^ 21 ≡ j_number w → j_word (opcode w) (rd w) n ≡ w
-j_own w n h e = omega arith
+pub j-own : (w n : ℕ) → w < 2 ^ 32 → n % 2 ^ 21 ≡ j_number w → j_word (opcode w) (rd w) n ≡ w
+j-own w n h e = omega arith
 
 -- ---- numbers in two's complement
 
@@ -100,10 +100,10 @@ multiple : (k : ℕ) → k ≤ 32 → (2 ^ (32 - k) - 1) * 2 ^ k + 2 ^ k ≡ 2 ^
 multiple k h =
     let whole : 2 ^ (32 - k) * 2 ^ k ≡ 2 ^ 32 = sym (pow-add 2 (32 - k) k) ∙ (let e : 32 - k + k ≡ 32 = omega arith in ap (λ (j : ℕ). 2 ^ j) e) in
     let some : 2 ^ (32 - k) ≡ 2 ^ (32 - k) - 1 + 1 = omega (arith, pow_pos (32 - k)) in
-    one_less (2 ^ (32 - k)) (2 ^ (32 - k) - 1) (2 ^ k) some whole
+    one-less (2 ^ (32 - k)) (2 ^ (32 - k) - 1) (2 ^ k) some whole
   where
-    one_less : (q r p : ℕ) → q ≡ r + 1 → q * p ≡ 2 ^ 32 → r * p + p ≡ 2 ^ 32
-    one_less q r p e whole = (let m : (r + 1) * p ≡ r * p + p = omega arith in sym m) ∙ (ap (λ (x : ℕ). x * p) (sym e) ∙ whole)
+    one-less : (q r p : ℕ) → q ≡ r + 1 → q * p ≡ 2 ^ 32 → r * p + p ≡ 2 ^ 32
+    one-less q r p e whole = (let m : (r + 1) * p ≡ r * p + p = omega arith in sym m) ∙ (ap (λ (x : ℕ). x * p) (sym e) ∙ whole)
 
 small-mod : (n p : ℕ) → n < p → n % p ≡ n
 small-mod n p h = (let e : n ≡ 0 * p + n = omega arith in ap (λ (x : ℕ). x % p) e) ∙ mod-mul-add 0 p n h
@@ -115,21 +115,21 @@ complement k m high h =
     ap (λ (x : ℕ). x % 2 ^ k) e ∙ mod-mul-add (2 ^ (32 - k) - 1) (2 ^ k) (2 ^ k - suc m) (omega arith)
 
 pub extend-cut : (k n : ℕ) → k ≤ 32 → n < 2 ^ k → cast_unsigned w32 (sign_extend k n) % 2 ^ k ≡ n
-extend-cut k n high small = by_half (nat_lt n (2 ^ (k - 1))) refl
+extend-cut k n high small = by-half (nat_lt n (2 ^ (k - 1))) refl
   where
-    by_half : (b : Bool) → nat_lt n (2 ^ (k - 1)) ≡ b → cast_unsigned w32 (sign_extend k n) % 2 ^ k ≡ n
-    by_half true e = rw (extend-low k n (ltb-true n (2 ^ (k - 1)) e)) (small-mod n (2 ^ k) small)
-    by_half false e =
+    by-half : (b : Bool) → nat_lt n (2 ^ (k - 1)) ≡ b → cast_unsigned w32 (sign_extend k n) % 2 ^ k ≡ n
+    by-half true e = rw (extend-low k n (ltb-true n (2 ^ (k - 1)) e)) (small-mod n (2 ^ k) small)
+    by-half false e =
         let back : 2 ^ k - suc (2 ^ k - 1 - n) ≡ n = omega arith in
         let below : 2 ^ k - 1 - n < 2 ^ k = omega arith in
         rw (extend-high k n (ltb-false n (2 ^ (k - 1)) e)) (complement k (2 ^ k - 1 - n) high below ∙ back)
 
 pub extend-signed : (k n : ℕ) → 0 < k → n < 2 ^ k → IsSigned k (sign_extend k n)
-extend-signed k n low small = by_half (nat_lt n (2 ^ (k - 1))) refl
+extend-signed k n low small = by-half (nat_lt n (2 ^ (k - 1))) refl
   where
-    by_half : (b : Bool) → nat_lt n (2 ^ (k - 1)) ≡ b → IsSigned k (sign_extend k n)
-    by_half true e = let h = ltb-true n (2 ^ (k - 1)) e in rw (extend-low k n h) (omega (arith, ints), omega (arith, ints))
-    by_half false e =
+    by-half : (b : Bool) → nat_lt n (2 ^ (k - 1)) ≡ b → IsSigned k (sign_extend k n)
+    by-half true e = let h = ltb-true n (2 ^ (k - 1)) e in rw (extend-low k n h) (omega (arith, ints), omega (arith, ints))
+    by-half false e =
         let h = ltb-false n (2 ^ (k - 1)) e in
         let t = twice k low in
         rw (extend-high k n h) (omega (arith, ints), omega (arith, ints))
@@ -149,11 +149,11 @@ cut-extend k (negsuc m) low high signed =
 
 -- parity is kept
 pub extend-even : (k n : ℕ) → 0 < k → n < 2 ^ k → n % 2 ≡ 0 → int_rem (sign_extend k n) (pos 2) ≡ pos 0
-extend-even k n low small even = by_half (nat_lt n (2 ^ (k - 1))) refl
+extend-even k n low small even = by-half (nat_lt n (2 ^ (k - 1))) refl
   where
-    by_half : (b : Bool) → nat_lt n (2 ^ (k - 1)) ≡ b → int_rem (sign_extend k n) (pos 2) ≡ pos 0
-    by_half true e = rw (extend-low k n (ltb-true n (2 ^ (k - 1)) e)) (ap pos even)
-    by_half false e =
+    by-half : (b : Bool) → nat_lt n (2 ^ (k - 1)) ≡ b → int_rem (sign_extend k n) (pos 2) ≡ pos 0
+    by-half true e = rw (extend-low k n (ltb-true n (2 ^ (k - 1)) e)) (ap pos even)
+    by-half false e =
         let t = twice k low in
         let rest : suc (2 ^ k - 1 - n) % 2 ≡ 0 = omega arith in
         rw (extend-high k n (ltb-false n (2 ^ (k - 1)) e)) (ap (λ (x : ℕ). neg_ℤ (pos x)) rest)

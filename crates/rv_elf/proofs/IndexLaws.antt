@@ -27,18 +27,18 @@ in-either x y (z ∷ xs) (inl e) = inl (inl e)
 in-either x y (z ∷ xs) (inr m) = elim (in-either x y xs m) [ inl k ↦ inl (inr k) | inr e ↦ inr e ]
 
 -- no element of a list passes a test that none passes
-pub none_at : {A : Type 0} (p : A → Bool) (xs : List A) (i : ℕ) (d : A) → list_any p xs ≡ false → i < length xs → p (get_or xs i d) ≡ false
-none_at p [] i d e h = absurd (omega arith)
-none_at p (x ∷ xs) zero d e h = (or_parts (p x) (list_any p xs) e).0
-none_at p (x ∷ xs) (suc i) d e h = none_at p xs i d (or_parts (p x) (list_any p xs) e).1 (omega arith)
+pub none-at : {A : Type 0} (p : A → Bool) (xs : List A) (i : ℕ) (d : A) → list_any p xs ≡ false → i < length xs → p (get_or xs i d) ≡ false
+none-at p [] i d e h = absurd (omega arith)
+none-at p (x ∷ xs) zero d e h = (or_parts (p x) (list_any p xs) e).0
+none-at p (x ∷ xs) (suc i) d e h = none-at p xs i d (or_parts (p x) (list_any p xs) e).1 (omega arith)
 
 -- where no two of a list overlap, no segment overlaps an earlier one
-pub earlier_apart : (ss : List Described) (i : ℕ) (d t : Described) → some_overlap ss ≡ false → i < length ss → In t (take i ss) → overlaps t (get_or ss i d) ≡ false
-earlier_apart [] i d t e h m = absurd (omega arith)
-earlier_apart (s ∷ ss) zero d t e h m = absurd m
-earlier_apart (s ∷ ss) (suc i) d t e h (inl same) =
-    ap (λ z. overlaps z (get_or ss i d)) same ∙ none_at (overlaps s) ss i d (or_parts (list_any (overlaps s) ss) (some_overlap ss) e).0 (omega arith)
-earlier_apart (s ∷ ss) (suc i) d t e h (inr m) = earlier_apart ss i d t (or_parts (list_any (overlaps s) ss) (some_overlap ss) e).1 (omega arith) m
+pub earlier-apart : (ss : List Described) (i : ℕ) (d t : Described) → some_overlap ss ≡ false → i < length ss → In t (take i ss) → overlaps t (get_or ss i d) ≡ false
+earlier-apart [] i d t e h m = absurd (omega arith)
+earlier-apart (s ∷ ss) zero d t e h m = absurd m
+earlier-apart (s ∷ ss) (suc i) d t e h (inl same) =
+    ap (λ z. overlaps z (get_or ss i d)) same ∙ none-at (overlaps s) ss i d (or_parts (list_any (overlaps s) ss) (some_overlap ss) e).0 (omega arith)
+earlier-apart (s ∷ ss) (suc i) d t e h (inr m) = earlier-apart ss i d t (or_parts (list_any (overlaps s) ss) (some_overlap ss) e).1 (omega arith) m
 
 -- of two segments that share no address, the one that begins later begins behind the other
 behind : (s t : Described) → overlaps s t ≡ false → s.address ≤ t.address → 0 < t.file_size → t.file_size ≤ t.memory_size → s.file_size ≤ s.memory_size
@@ -64,25 +64,25 @@ rises index loads x i j d le h = elim (cases_order i j) [
 -- one more segment that takes bytes
 module _ (index : List Segment) (n : ℕ) (s : Segment) (done : List Described) (x : IsIndex index done) (b : AreBegun index s.address n)
     (taking : 0 < s.file_size) (fits : s.file_size ≤ s.memory_size) (clear : (t : Described) → In t done → overlaps t (described s) ≡ false) where
-  at_new : (k : ℕ) (d : Segment) → k ≡ n → get_or (insert index n s) k d ≡ s
-  at_new k d e = ap (λ z. get_or (insert index n s) z d) e ∙ get_or-insert_at index n s d b.bound
+  at-new : (k : ℕ) (d : Segment) → k ≡ n → get_or (insert index n s) k d ≡ s
+  at-new k d e = ap (λ z. get_or (insert index n s) z d) e ∙ get_or-insert_at index n s d b.bound
 
-  at_below : (k : ℕ) (d : Segment) → k < n → get_or (insert index n s) k d ≡ get_or index k d
-  at_below k d h = get_or-insert_below index n s d k h b.bound
+  at-below : (k : ℕ) (d : Segment) → k < n → get_or (insert index n s) k d ≡ get_or index k d
+  at-below k d h = get_or-insert_below index n s d k h b.bound
 
-  at_above : (k : ℕ) (d : Segment) → n < k → get_or (insert index n s) k d ≡ get_or index (k - 1) d
-  at_above k d h =
+  at-above : (k : ℕ) (d : Segment) → n < k → get_or (insert index n s) k d ≡ get_or index (k - 1) d
+  at-above k d h =
       let e : k ≡ k - 1 + 1 = omega arith in
       ap (λ z. get_or (insert index n s) z d) e ∙ get_or-insert_above index n s d (k - 1) (omega arith) b.bound
 
-  below_new : (i : ℕ) (d : Segment) → i < n → (get_or index i d).address + (get_or index i d).file_size ≤ s.address
-  below_new i d h =
+  below-new : (i : ℕ) (d : Segment) → i < n → (get_or index i d).address + (get_or index i d).file_size ≤ s.address
+  below-new i d h =
       let bound = b.bound in
       let within : i < length index = omega arith in
       behind (described (get_or index i d)) (described s) (clear (described (get_or index i d)) (x.from i d within)) (b.begun i d h) taking fits (x.sized i d within).1
 
-  above_new : (i : ℕ) (d : Segment) → n ≤ i → i < length index → s.address + s.file_size ≤ (get_or index i d).address
-  above_new i d h within =
+  above-new : (i : ℕ) (d : Segment) → n ≤ i → i < length index → s.address + s.file_size ≤ (get_or index i d).address
+  above-new i d h within =
       let later = b.above i d h within in
       ahead (described (get_or index i d)) (described s) (clear (described (get_or index i d)) (x.from i d within)) (omega arith) (x.sized i d within).0 (x.sized i d within).1 fits
 
@@ -92,12 +92,12 @@ module _ (index : List Segment) (n : ℕ) (s : Segment) (done : List Described) 
       let grown : length (insert index n s) ≡ length index + 1 = length-insert index n s b.bound in
       let bound = b.bound in
       elim (cases_order j n) [
-        | inl same ↦ rw (at_new j d same, at_below i d (omega arith)) (below_new i d (omega arith))
-        | inr (inl low) ↦ rw (at_below j d low, at_below i d (omega arith)) (x.apart i j d less (omega arith))
+        | inl same ↦ rw (at-new j d same, at-below i d (omega arith)) (below-new i d (omega arith))
+        | inr (inl low) ↦ rw (at-below j d low, at-below i d (omega arith)) (x.apart i j d less (omega arith))
         | inr (inr high) ↦ elim (cases_order i n) [
-          | inl same ↦ rw (at_above j d high, at_new i d same) (above_new (j - 1) d (omega arith) (omega arith))
-          | inr (inl low) ↦ rw (at_above j d high, at_below i d low) (x.apart i (j - 1) d (omega arith) (omega arith))
-          | inr (inr above) ↦ rw (at_above j d high, at_above i d above) (x.apart (i - 1) (j - 1) d (omega arith) (omega arith))
+          | inl same ↦ rw (at-above j d high, at-new i d same) (above-new (j - 1) d (omega arith) (omega arith))
+          | inr (inl low) ↦ rw (at-above j d high, at-below i d low) (x.apart i (j - 1) d (omega arith) (omega arith))
+          | inr (inr above) ↦ rw (at-above j d high, at-above i d above) (x.apart (i - 1) (j - 1) d (omega arith) (omega arith))
         ]
       ]
 
@@ -108,9 +108,9 @@ module _ (index : List Segment) (n : ℕ) (s : Segment) (done : List Described) 
       let grown : length (insert index n s) ≡ length index + 1 = length-insert index n s b.bound in
       let bound = b.bound in
       elim (cases_order i n) [
-        | inl same ↦ subst P (sym (at_new i d same)) new
-        | inr (inl low) ↦ subst P (sym (at_below i d low)) (old i d (omega arith))
-        | inr (inr high) ↦ subst P (sym (at_above i d high)) (old (i - 1) d (omega arith))
+        | inl same ↦ subst P (sym (at-new i d same)) new
+        | inr (inl low) ↦ subst P (sym (at-below i d low)) (old i d (omega arith))
+        | inr (inr high) ↦ subst P (sym (at-above i d high)) (old (i - 1) d (omega arith))
       ]
 
   complete : (t : Described) → In t (done ++ described s ∷ []) → 0 < t.file_size
@@ -119,7 +119,7 @@ module _ (index : List Segment) (n : ℕ) (s : Segment) (done : List Described) 
       let grown : length (insert index n s) ≡ length index + 1 = length-insert index n s b.bound in
       let bound = b.bound in
       elim (in-either t (described s) done m) [
-        | inr e ↦ (n, (omega arith), λ d. ap described (at_new n d refl) ∙ sym e)
+        | inr e ↦ (n, (omega arith), λ d. ap described (at-new n d refl) ∙ sym e)
         | inl k ↦ moved (x.complete t k some)
       ]
     where
@@ -128,7 +128,7 @@ module _ (index : List Segment) (n : ℕ) (s : Segment) (done : List Described) 
       moved (i, h, e) =
           let grown : length (insert index n s) ≡ length index + 1 = length-insert index n s b.bound in
           elim (cases_lt i n) [
-            | inl low ↦ (i, (omega arith), λ d. ap described (at_below i d low) ∙ e d)
+            | inl low ↦ (i, (omega arith), λ d. ap described (at-below i d low) ∙ e d)
             | inr high ↦ (i + 1, (omega arith), λ d. ap described (get_or-insert_above index n s d i high b.bound) ∙ e d)
           ]
 
@@ -168,15 +168,15 @@ module _ (loads : List Segment) (i : ℕ) (d : Segment) (index : List Segment) (
   placed n apart fits taking b =
       let clear : (t : Described) → In t (map described (take i loads)) → overlaps t (described (get_or loads i d)) ≡ false = λ t m.
       ap (overlaps t) (sym (get_or-map described loads i d (described d) h))
-      ∙ earlier_apart (map described loads) i (described d) t apart (let l = length-map loads described in omega arith) (subst (In t) (sym (take-map described i loads)) m) in
+      ∙ earlier-apart (map described loads) i (described d) t apart (let l = length-map loads described in omega arith) (subst (In t) (sym (take-map described i loads)) m) in
       subst (IsIndex (insert index n (get_or loads i d))) (sym (map_more described loads i d h))
       (index-insert index n (get_or loads i d) (map described (take i loads)) x b taking (fits i d h) clear)
 
-  pub left_out : (get_or loads i d).file_size ≤ 0 → IsIndex index (map described (take (i + 1) loads))
-  left_out empty = subst (IsIndex index) (sym (map_more described loads i d h)) (index-same index (get_or loads i d) (map described (take i loads)) x empty)
+  pub left-out : (get_or loads i d).file_size ≤ 0 → IsIndex index (map described (take (i + 1) loads))
+  left-out empty = subst (IsIndex index) (sym (map_more described loads i d h)) (index-same index (get_or loads i d) (map described (take i loads)) x empty)
 
 -- no member of a list passes a test that none passes
-pub none_in : {A : Type 0} (p : A → Bool) (x : A) (xs : List A) → list_any p xs ≡ false → In x xs → p x ≡ false
-none_in p x [] e m = absurd m
-none_in p x (y ∷ xs) e (inl same) = ap p same ∙ (or_parts (p y) (list_any p xs) e).0
-none_in p x (y ∷ xs) e (inr m) = none_in p x xs (or_parts (p y) (list_any p xs) e).1 m
+pub none-in : {A : Type 0} (p : A → Bool) (x : A) (xs : List A) → list_any p xs ≡ false → In x xs → p x ≡ false
+none-in p x [] e m = absurd m
+none-in p x (y ∷ xs) e (inl same) = ap p same ∙ (or_parts (p y) (list_any p xs) e).0
+none-in p x (y ∷ xs) e (inr m) = none-in p x xs (or_parts (p y) (list_any p xs) e).1 m

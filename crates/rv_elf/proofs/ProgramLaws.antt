@@ -6,7 +6,7 @@ use Rattle.rv_spec.specs.Words.{AreBytes}
 use Rattle.rv_spec.specs.Elf.{Segment, first_fault, load_segments, block_of, image}
 use Rattle.rv_rules.specs.Agreement.{IsProgram}
 use Rattle.rv_rules.proofs.Lemmas.{byte-fits, take-bytes, drop-bytes}
-use Rattle.rv_elf.proofs.HeaderLaws.{entry_aligned}
+use Rattle.rv_elf.proofs.HeaderLaws.{entry-aligned}
 
 number-fits : (bytes : List ℕ) → AreBytes bytes → from_le_bytes w32 bytes < 2 ^ 32
 number-fits bytes h = omega (arith, byte-fits bytes 0 h, byte-fits bytes 1 h, byte-fits bytes 2 h, byte-fits bytes 3 h)
@@ -18,6 +18,6 @@ blocks-are file (s ∷ ss) h = (take-bytes s.file_size (drop s.offset file) (dro
 pub image-is : (version : ℕ) (file : List ℕ) → AreBytes file → first_fault file ≡ None → IsProgram (image version file)
 image-is version file h faultless = record {
   entry = number-fits (drop 24 file) (drop-bytes 24 file h);
-  aligned = entry_aligned file faultless;
+  aligned = entry-aligned file faultless;
   bytes = blocks-are file (load_segments file) h;
 }

@@ -8,41 +8,41 @@ use Rattle.rv_spec.specs.Elf.{Segment as Described, headers, load_segments, some
 use Rattle.rv_elf.specs.declared.scan.Scan.{Scan}
 use Rattle.rv_elf.specs.Faults.{IsClear}
 use Rattle.rv_elf.specs.Segments.{described, IsScan}
-use Rattle.rv_elf.proofs.FaultLaws.{clear_more, fault_is, faultless}
-use Rattle.rv_elf.proofs.IndexLaws.{none_at}
+use Rattle.rv_elf.proofs.FaultLaws.{clear-more, fault-is, faultless}
+use Rattle.rv_elf.proofs.IndexLaws.{none-at}
 
 module _ (file : List ℕ) (c : IsClear 15 file) where
   few : length (load_segments file) ≤ 64
   unfolding IsClear
   few = ltb-false 64 (length (load_segments file)) c.1.1.1.1.1.1.1.1.1.1.1.1.1.0
 
-  pub no_overlap : some_overlap (load_segments file) ≡ false
+  pub no-overlap : some_overlap (load_segments file) ≡ false
   unfolding IsClear
-  no_overlap = c.1.1.1.1.1.1.1.1.1.1.1.1.1.1.0
+  no-overlap = c.1.1.1.1.1.1.1.1.1.1.1.1.1.1.0
 
-  in_memory : (k : ℕ) (d : Described) → k < length (load_segments file) → (get_or (load_segments file) k d).file_size ≤ (get_or (load_segments file) k d).memory_size
+  in-memory : (k : ℕ) (d : Described) → k < length (load_segments file) → (get_or (load_segments file) k d).file_size ≤ (get_or (load_segments file) k d).memory_size
   unfolding IsClear
-  in_memory k d h =
+  in-memory k d h =
       ltb-false (get_or (load_segments file) k d).memory_size (get_or (load_segments file) k d).file_size
-      (none_at (λ s. nat_lt s.memory_size s.file_size) (load_segments file) k d c.1.1.1.1.1.1.1.1.1.1.1.0 h)
+      (none-at (λ s. nat_lt s.memory_size s.file_size) (load_segments file) k d c.1.1.1.1.1.1.1.1.1.1.1.0 h)
 
-  pub without_fault : u32_at file 24 % 4 ≡ 0 → first_fault file ≡ None
-  without_fault e = faultless file (clear_more file 15 c (ap not (eq-eqb (u32_at file 24 % 4) 0 e)))
+  pub without-fault : u32_at file 24 % 4 ≡ 0 → first_fault file ≡ None
+  without-fault e = faultless file (clear-more file 15 c (ap not (eq-eqb (u32_at file 24 % 4) 0 e)))
 
   pub misplaced : (u32_at file 24 % 4 ≡ 0 → ⊥) → first_fault file ≡ Some 16
-  misplaced e = fault_is file 15 c (ap not (ne_eqb (u32_at file 24 % 4) 0 e))
+  misplaced e = fault-is file 15 c (ap not (ne_eqb (u32_at file 24 % 4) 0 e))
 
   module _ (s : Scan) (x : IsScan (length file) (headers file) s) where
-    pub kept_loads : map described s.loads.items ≡ load_segments file
+    pub kept-loads : map described s.loads.items ≡ load_segments file
     unfolding load_segments
-    kept_loads = x.loads ∙ take_all 64 (load_segments file) few
+    kept-loads = x.loads ∙ take_all 64 (load_segments file) few
 
-    pub kept_apart : some_overlap (map described s.loads.items) ≡ false
-    kept_apart = ap some_overlap kept_loads ∙ no_overlap
+    pub kept-apart : some_overlap (map described s.loads.items) ≡ false
+    kept-apart = ap some_overlap kept-loads ∙ no-overlap
 
-    pub kept_fit : All (λ t. t.file_size ≤ t.memory_size) s.loads.items
-    kept_fit k d h =
-        let len : length s.loads.items ≡ length (load_segments file) = sym (length-map s.loads.items described) ∙ ap length kept_loads in
+    pub kept-fit : All (λ t. t.file_size ≤ t.memory_size) s.loads.items
+    kept-fit k d h =
+        let len : length s.loads.items ≡ length (load_segments file) = sym (length-map s.loads.items described) ∙ ap length kept-loads in
         let at : get_or (load_segments file) k (described d) ≡ described (get_or s.loads.items k d) =
-        ap (λ l. get_or l k (described d)) (sym kept_loads) ∙ get_or-map described s.loads.items k d (described d) h in
-        subst (λ t. t.file_size ≤ t.memory_size) at (in_memory k (described d) (omega arith))
+        ap (λ l. get_or l k (described d)) (sym kept-loads) ∙ get_or-map described s.loads.items k d (described d) h in
+        subst (λ t. t.file_size ≤ t.memory_size) at (in-memory k (described d) (omega arith))

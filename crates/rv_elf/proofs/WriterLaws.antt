@@ -68,25 +68,25 @@ module _ (ps : List Part) (i : ℕ) (d : Part) (h : i < length ps) where
 
 -- one more part whose numbers have 32 bits
 pub ranges-next : (ps : List Part) (i : ℕ) (d : Part) → AllByRecursion AreWords (take i ps) → AreWords (get_or ps i d) → AllByRecursion AreWords (take (i + 1) ps)
-ranges-next ps i d before new = subst (λ k. AllByRecursion AreWords (take k ps)) (sym (add-one i)) (one_more ps i before new)
+ranges-next ps i d before new = subst (λ k. AllByRecursion AreWords (take k ps)) (sym (add-one i)) (one-more ps i before new)
   where
-    one_more : (ps : List Part) (i : ℕ) → AllByRecursion AreWords (take i ps) → AreWords (get_or ps i d) → AllByRecursion AreWords (take (suc i) ps)
-    one_more [] i before new = tt
-    one_more (p ∷ ps) zero before new = (new, tt)
-    one_more (p ∷ ps) (suc i) before new = (before.0, one_more ps i before.1 new)
+    one-more : (ps : List Part) (i : ℕ) → AllByRecursion AreWords (take i ps) → AreWords (get_or ps i d) → AllByRecursion AreWords (take (suc i) ps)
+    one-more [] i before new = tt
+    one-more (p ∷ ps) zero before new = (new, tt)
+    one-more (p ∷ ps) (suc i) before new = (before.0, one-more ps i before.1 new)
 
 -- behind the last part nothing is left
 pub table-done : (ps : List Part) (i o : ℕ) (before all : List ℕ) → length ps ≤ i → before ++ header_table o (drop i ps) ≡ all → before ≡ all
 unfolding header_table
 table-done ps i o before all h e =
-    let none : drop i ps ≡ [] = drop_all ps i h in
+    let none : drop i ps ≡ [] = drop-all ps i h in
     sym (append-nil before) ∙ ap (λ l. before ++ header_table o l) (sym none) ∙ e
   where
-    drop_all : (ps : List Part) (i : ℕ) → length ps ≤ i → drop i ps ≡ []
-    drop_all [] zero h = refl
-    drop_all [] (suc i) h = refl
-    drop_all (p ∷ ps) zero h = absurd (omega arith)
-    drop_all (p ∷ ps) (suc i) h = drop_all ps i (omega arith)
+    drop-all : (ps : List Part) (i : ℕ) → length ps ≤ i → drop i ps ≡ []
+    drop-all [] zero h = refl
+    drop-all [] (suc i) h = refl
+    drop-all (p ∷ ps) zero h = absurd (omega arith)
+    drop-all (p ∷ ps) (suc i) h = drop-all ps i (omega arith)
 
 -- the ELF header, as it is appended
 pub header-is : (old : List ℕ) (entry n : ℕ)

@@ -12,26 +12,25 @@ use Rattle.rv_spec.specs.Record.{entry_bytes}
 use Rattle.rv_spec.specs.Grammar.{EntryFits, IsRising}
 use Rattle.rv_rules.specs.Reading.{entry_of, above, read_entry, read_entries}
 use Rattle.rv_rules.specs.Checks.{Check, ◌>>=◌}
-use Rattle.rv_row.proofs.Lemmas.{wide32, wide64, field32, field64, below32, below64}
+use Rattle.rv_row.proofs.Lemmas.{wide32, wide64, field32, field64, below32, below64, all-hold, hold}
 use Rattle.rv_rules.proofs.Lemmas.{drop-bytes}
 use Rattle.rv_spec.specs.Words.{AreBytes}
-use Rattle.rv_row.proofs.Lemmas.{all_hold, hold}
-use Rattle.rv_file.proofs.Steps.{bind_ok, unless_ok, unless_holds, ok_is}
+use Rattle.rv_file.proofs.Steps.{bind-ok, unless-ok, unless-holds, ok-is}
 
-spell_entry : (e : TableEntry) (d16 d8 d4 d0 : List ℕ) → to_le_bytes w64 e.time ++ d16 ≡ d8 → to_le_bytes w32 e.value ++ d8 ≡ d4 → to_le_bytes w32 e.cell ++ d4 ≡ d0 → entry_bytes e ++ d16 ≡ d0
+spell-entry : (e : TableEntry) (d16 d8 d4 d0 : List ℕ) → to_le_bytes w64 e.time ++ d16 ≡ d8 → to_le_bytes w32 e.value ++ d8 ≡ d4 → to_le_bytes w32 e.cell ++ d4 ≡ d0 → entry_bytes e ++ d16 ≡ d0
 unfolding entry_bytes
-spell_entry e d16 d8 d4 d0 time value cell =
+spell-entry e d16 d8 d4 d0 time value cell =
     ap (λ (xs : List ℕ). to_le_bytes w32 e.cell ++ (to_le_bytes w32 e.value ++ xs)) time
     ∙ ap (λ (xs : List ℕ). to_le_bytes w32 e.cell ++ xs) value
     ∙ cell
 
-pub entry_takes : (bytes : List ℕ) → AreBytes bytes → 16 ≤ length bytes → entry_bytes (entry_of bytes) ++ drop 16 bytes ≡ bytes
-entry_takes bytes fits room =
-    spell_entry (entry_of bytes) (drop 16 bytes) (drop 8 bytes) (drop 4 bytes) bytes
+pub entry-takes : (bytes : List ℕ) → AreBytes bytes → 16 ≤ length bytes → entry_bytes (entry_of bytes) ++ drop 16 bytes ≡ bytes
+entry-takes bytes fits room =
+    spell-entry (entry_of bytes) (drop 16 bytes) (drop 8 bytes) (drop 4 bytes) bytes
     (field64 bytes 8 16 fits refl room) (field32 bytes 4 8 fits refl (omega arith)) (field32 bytes 0 4 fits refl (omega arith))
 
-is_cell_below : (version c : ℕ) → is_cell version c ≡ true → c < 2 ^ 32
-is_cell_below version c e =
+is-cell-below : (version c : ℕ) → is_cell version c ≡ true → c < 2 ^ 32
+is-cell-below version c e =
     elim (or_cases (ltb c (2 ^ 30) || (ltb (2 ^ 30) c && ltb c (2 ^ 30 + 32))) (eqb version 2 && eqb c (2 ^ 30 + 32)) e) [
       | inl known ↦
           elim (or_cases (ltb c (2 ^ 30)) (ltb (2 ^ 30) c && ltb c (2 ^ 30 + 32)) known) [
@@ -41,10 +40,10 @@ is_cell_below version c e =
       | inr reservation ↦ omega (arith, eqb-true c (2 ^ 30 + 32) (and_parts (eqb version 2) (eqb c (2 ^ 30 + 32)) reservation).1)
     ]
 
-pub entry_again : (version : ℕ) (e : TableEntry) (rest : List ℕ) → EntryFits version e → entry_of (entry_bytes e ++ rest) ≡ e
+pub entry-again : (version : ℕ) (e : TableEntry) (rest : List ℕ) → EntryFits version e → entry_of (entry_bytes e ++ rest) ≡ e
 unfolding entry_bytes
-entry_again version e rest fits = λ i. record {
-  cell = wide32.again e.cell [] (is_cell_below version e.cell fits.cell) i;
+entry-again version e rest fits = λ i. record {
+  cell = wide32.again e.cell [] (is-cell-below version e.cell fits.cell) i;
   value = wide32.again e.value [] fits.value i;
   time = wide64.again e.time [] (omega (arith, fits.time.1)) i;
 }
@@ -61,25 +60,25 @@ cells_of es = map (λ t. t.cell) es
 abbrev AllAbove : Option ℕ → List ℕ → Type 0
 AllAbove before cs = AllByRecursion (λ c. above before c ≡ true) cs
 
-above_some : (c : ℕ) (cs : List ℕ) → AllAbove (Some c) cs → AllByRecursion (λ y. c < y) cs
-above_some c [] h = tt
-above_some c (d ∷ cs) h = (ltb-true c d h.0, above_some c cs h.1)
+above-some : (c : ℕ) (cs : List ℕ) → AllAbove (Some c) cs → AllByRecursion (λ y. c < y) cs
+above-some c [] h = tt
+above-some c (d ∷ cs) h = (ltb-true c d h.0, above-some c cs h.1)
 
-some_above : (c : ℕ) (cs : List ℕ) → AllByRecursion (λ y. c < y) cs → AllAbove (Some c) cs
-some_above c [] h = tt
-some_above c (d ∷ cs) h = (lt-ltb c d h.0, some_above c cs h.1)
+some-above : (c : ℕ) (cs : List ℕ) → AllByRecursion (λ y. c < y) cs → AllAbove (Some c) cs
+some-above c [] h = tt
+some-above c (d ∷ cs) h = (lt-ltb c d h.0, some-above c cs h.1)
 
-above_more : (before : Option ℕ) (c d : ℕ) → above before c ≡ true → c < d → above before d ≡ true
-above_more None c d h lt = refl
-above_more (Some b) c d h lt = let first : b < c = ltb-true b c h in lt-ltb b d (omega arith)
+above-more : (before : Option ℕ) (c d : ℕ) → above before c ≡ true → c < d → above before d ≡ true
+above-more None c d h lt = refl
+above-more (Some b) c d h lt = let first : b < c = ltb-true b c h in lt-ltb b d (omega arith)
 
-above_all : (before : Option ℕ) (c : ℕ) (cs : List ℕ) → above before c ≡ true → AllByRecursion (λ y. c < y) cs → AllAbove before cs
-above_all before c [] h lt = tt
-above_all before c (d ∷ cs) h lt = (above_more before c d h lt.0, above_all before c cs h lt.1)
+above-all : (before : Option ℕ) (c : ℕ) (cs : List ℕ) → above before c ≡ true → AllByRecursion (λ y. c < y) cs → AllAbove before cs
+above-all before c [] h lt = tt
+above-all before c (d ∷ cs) h lt = (above-more before c d h lt.0, above-all before c cs h lt.1)
 
-none_above : (cs : List ℕ) → AllAbove None cs
-none_above [] = tt
-none_above (c ∷ cs) = (refl, none_above cs)
+none-above : (cs : List ℕ) → AllAbove None cs
+none-above [] = tt
+none-above (c ∷ cs) = (refl, none-above cs)
 
 -- ---- entries
 
@@ -95,71 +94,71 @@ pub record EntriesTaken (n version : ℕ) (before : Option ℕ) (bytes : List �
   pub rising : IsRising (cells_of x.0)
   pub rest : AreBytes x.1
 
-pub entries_taken : (n : ℕ) (h : Header) (j : ℕ) (before : Option ℕ) (bytes : List ℕ) (x : List TableEntry × List ℕ) → AreBytes bytes → read_entries n h j before bytes ≡ Ok x → EntriesTaken n h.version before bytes x
+pub entries-taken : (n : ℕ) (h : Header) (j : ℕ) (before : Option ℕ) (bytes : List ℕ) (x : List TableEntry × List ℕ) → AreBytes bytes → read_entries n h j before bytes ≡ Ok x → EntriesTaken n h.version before bytes x
 unfolding read_entries
-entries_taken zero h j before bytes x fits e =
-    subst (λ (y : List TableEntry × List ℕ). EntriesTaken zero h.version before bytes y) (ok_is ([], bytes) x e) (record { spelled = refl; fits = tt; count = refl; higher = tt; rising = tt; rest = fits })
-entries_taken (suc n) h j before bytes x fits e =
+entries-taken zero h j before bytes x fits e =
+    subst (λ (y : List TableEntry × List ℕ). EntriesTaken zero h.version before bytes y) (ok-is ([], bytes) x e) (record { spelled = refl; fits = tt; count = refl; higher = tt; rising = tt; rest = fits })
+entries-taken (suc n) h j before bytes x fits e =
     let t = entry_of bytes in
     let read : TableEntry × List ℕ = (t, drop 16 bytes) in
-    let a = bind_ok (read_entry h j before bytes) (λ first. read_entries n h (j + 1) (Some (first.0).cell) first.1 >>= λ others. Ok (first.0 ∷ others.0, others.1)) x e in
-    let u = unless_ok h.shards j (entry_checks h before bytes) read a.0 a.1 in
-    let c1 = all_hold (1, leb 16 (length bytes)) ((22, above before t.cell) ∷ (23, is_cell h.version t.cell) ∷ (24, ltb 0 t.time) ∷ []) u.0 in
-    let c2 = all_hold (22, above before t.cell) ((23, is_cell h.version t.cell) ∷ (24, ltb 0 t.time) ∷ []) c1.1 in
-    let c3 = all_hold (23, is_cell h.version t.cell) ((24, ltb 0 t.time) ∷ []) c2.1 in
-    let c4 = all_hold (24, ltb 0 t.time) [] c3.1 in
-    let b = bind_ok (read_entries n h (j + 1) (Some (a.0.0).cell) a.0.1) (λ others. Ok (a.0.0 ∷ others.0, others.1)) x a.2 in
+    let a = bind-ok (read_entry h j before bytes) (λ first. read_entries n h (j + 1) (Some (first.0).cell) first.1 >>= λ others. Ok (first.0 ∷ others.0, others.1)) x e in
+    let u = unless-ok h.shards j (entry_checks h before bytes) read a.0 a.1 in
+    let c1 = all-hold (1, leb 16 (length bytes)) ((22, above before t.cell) ∷ (23, is_cell h.version t.cell) ∷ (24, ltb 0 t.time) ∷ []) u.0 in
+    let c2 = all-hold (22, above before t.cell) ((23, is_cell h.version t.cell) ∷ (24, ltb 0 t.time) ∷ []) c1.1 in
+    let c3 = all-hold (23, is_cell h.version t.cell) ((24, ltb 0 t.time) ∷ []) c2.1 in
+    let c4 = all-hold (24, ltb 0 t.time) [] c3.1 in
+    let b = bind-ok (read_entries n h (j + 1) (Some (a.0.0).cell) a.0.1) (λ others. Ok (a.0.0 ∷ others.0, others.1)) x a.2 in
     let first_is : a.0 ≡ read = sym u.1 in
     let more = subst (λ (y : TableEntry × List ℕ). read_entries n h (j + 1) (Some (y.0).cell) y.1 ≡ Ok b.0 → EntriesTaken n h.version (Some t.cell) (drop 16 bytes) b.0)
-    u.1 (λ k. entries_taken n h (j + 1) (Some t.cell) (drop 16 bytes) b.0 (drop-bytes 16 bytes fits) k) b.1 in
-    let behind = above_some t.cell (cells_of b.0.0) more.higher in
+    u.1 (λ k. entries-taken n h (j + 1) (Some t.cell) (drop 16 bytes) b.0 (drop-bytes 16 bytes fits) k) b.1 in
+    let behind = above-some t.cell (cells_of b.0.0) more.higher in
     let positive : 0 < t.time = ltb-true 0 t.time c4.0 in
     let below : t.time < 2 ^ 64 = below64 bytes 8 fits in
     let all : EntriesTaken (suc n) h.version before bytes (t ∷ b.0.0, b.0.1) = record {
       spelled =
-          sym (entry_takes bytes fits (leb-true 16 (length bytes) c1.0)) ∙ ap (λ (xs : List ℕ). entry_bytes t ++ xs) more.spelled
+          sym (entry-takes bytes fits (leb-true 16 (length bytes) c1.0)) ∙ ap (λ (xs : List ℕ). entry_bytes t ++ xs) more.spelled
           ∙ sym (append_assoc (entry_bytes t) (flat_map entry_bytes b.0.0) b.0.1);
       fits = (record { cell = c3.0; value = below32 bytes 4 fits; time = (omega arith, omega arith) }, more.fits);
       count = ap suc more.count;
-      higher = (c2.0, above_all before t.cell (cells_of b.0.0) c2.0 behind);
+      higher = (c2.0, above-all before t.cell (cells_of b.0.0) c2.0 behind);
       rising = (behind, more.rising);
       rest = more.rest;
     } in
-    let whole : (t ∷ b.0.0, b.0.1) ≡ x = ap (λ (y : TableEntry × List ℕ). (y.0 ∷ b.0.0, b.0.1)) u.1 ∙ ok_is (a.0.0 ∷ b.0.0, b.0.1) x b.2 in
+    let whole : (t ∷ b.0.0, b.0.1) ≡ x = ap (λ (y : TableEntry × List ℕ). (y.0 ∷ b.0.0, b.0.1)) u.1 ∙ ok-is (a.0.0 ∷ b.0.0, b.0.1) x b.2 in
     subst (λ (y : List TableEntry × List ℕ). EntriesTaken (suc n) h.version before bytes y) whole all
 
-entry_read : (e : TableEntry) (h : Header) (j : ℕ) (before : Option ℕ) (rest : List ℕ) → EntryFits h.version e → above before e.cell ≡ true → read_entry h j before (entry_bytes e ++ rest) ≡ Ok (e, rest)
-entry_read e h j before rest fits higher =
+entry-read : (e : TableEntry) (h : Header) (j : ℕ) (before : Option ℕ) (rest : List ℕ) → EntryFits h.version e → above before e.cell ≡ true → read_entry h j before (entry_bytes e ++ rest) ≡ Ok (e, rest)
+entry-read e h j before rest fits higher =
     let bytes = entry_bytes e ++ rest in
     let t = entry_of bytes in
-    let entry_is : t ≡ e = entry_again h.version e rest fits in
+    let entry-is : t ≡ e = entry-again h.version e rest fits in
     let room : 16 ≤ length bytes = omega (arith, length-append (entry_bytes e) rest, length-entry_bytes e) in
-    let rises = ap (λ (k : TableEntry). above before k.cell) entry_is ∙ higher in
-    let known = ap (λ (k : TableEntry). is_cell h.version k.cell) entry_is ∙ fits.cell in
-    let timed = ap (λ (k : TableEntry). ltb 0 k.time) entry_is ∙ lt-ltb 0 e.time (omega (arith, fits.time.0)) in
+    let rises = ap (λ (k : TableEntry). above before k.cell) entry-is ∙ higher in
+    let known = ap (λ (k : TableEntry). is_cell h.version k.cell) entry-is ∙ fits.cell in
+    let timed = ap (λ (k : TableEntry). ltb 0 k.time) entry-is ∙ lt-ltb 0 e.time (omega (arith, fits.time.0)) in
     let left_is : drop 16 bytes ≡ rest = drop_at (entry_bytes e) rest 16 (length-entry_bytes e) in
-    unless_holds h.shards j (entry_checks h before bytes) (t, drop 16 bytes)
+    unless-holds h.shards j (entry_checks h before bytes) (t, drop 16 bytes)
     (hold (1, leb 16 (length bytes)) ((22, above before t.cell) ∷ (23, is_cell h.version t.cell) ∷ (24, ltb 0 t.time) ∷ []) (le-leb 16 (length bytes) room)
     (hold (22, above before t.cell) ((23, is_cell h.version t.cell) ∷ (24, ltb 0 t.time) ∷ []) rises
     (hold (23, is_cell h.version t.cell) ((24, ltb 0 t.time) ∷ []) known
     (hold (24, ltb 0 t.time) [] timed refl))))
-    ∙ (λ i. Ok (entry_is i, left_is i))
+    ∙ (λ i. Ok (entry-is i, left_is i))
 
-entries_read_above : (es : List TableEntry) (h : Header) (j : ℕ) (before : Option ℕ) (rest : List ℕ) → AllByRecursion (EntryFits h.version) es → AllAbove before (cells_of es) → IsRising (cells_of es)
+entries-read-above : (es : List TableEntry) (h : Header) (j : ℕ) (before : Option ℕ) (rest : List ℕ) → AllByRecursion (EntryFits h.version) es → AllAbove before (cells_of es) → IsRising (cells_of es)
     → read_entries (length es) h j before (flat_map entry_bytes es ++ rest) ≡ Ok (es, rest)
 unfolding read_entries
-entries_read_above [] h j before rest fits higher rising = refl
-entries_read_above (e ∷ es) h j before rest fits higher rising =
-    let first = entry_read e h j before (flat_map entry_bytes es ++ rest) fits.0 higher.0 in
-    let others = entries_read_above es h (j + 1) (Some e.cell) rest fits.1 (some_above e.cell (cells_of es) rising.0) rising.1 in
+entries-read-above [] h j before rest fits higher rising = refl
+entries-read-above (e ∷ es) h j before rest fits higher rising =
+    let first = entry-read e h j before (flat_map entry_bytes es ++ rest) fits.0 higher.0 in
+    let others = entries-read-above es h (j + 1) (Some e.cell) rest fits.1 (some-above e.cell (cells_of es) rising.0) rising.1 in
     let next : TableEntry × List ℕ → Result (List TableEntry × List ℕ) Refusal = λ f. read_entries (length es) h (j + 1) (Some (f.0).cell) f.1 >>= λ o. Ok (f.0 ∷ o.0, o.1) in
     ap (λ bytes. read_entries (suc (length es)) h j before bytes) (append_assoc (entry_bytes e) (flat_map entry_bytes es) rest)
     ∙ ap (λ r. r >>= next) first
     ∙ ap (λ r. r >>= λ o. Ok (e ∷ o.0, o.1)) others
 
-pub entries_read : (es : List TableEntry) (h : Header) (j : ℕ) (rest : List ℕ) → AllByRecursion (EntryFits h.version) es → IsRising (cells_of es)
+pub entries-read : (es : List TableEntry) (h : Header) (j : ℕ) (rest : List ℕ) → AllByRecursion (EntryFits h.version) es → IsRising (cells_of es)
     → read_entries (length es) h j None (flat_map entry_bytes es ++ rest) ≡ Ok (es, rest)
-entries_read es h j rest fits rising = entries_read_above es h j None rest fits (none_above (cells_of es)) rising
+entries-read es h j rest fits rising = entries-read-above es h j None rest fits (none-above (cells_of es)) rising
 
 pub length-entries : (es : List TableEntry) → length (flat_map entry_bytes es) ≡ 16 * length es
 length-entries [] = refl

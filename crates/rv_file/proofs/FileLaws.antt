@@ -17,13 +17,12 @@ use Rattle.rv_rules.specs.Reading.{Reading, header_of, read_entries, read_file, 
 use Rattle.rv_rules.specs.Checks.{Check, first_broken, unless_broken, ◌>>=◌}
 use Rattle.rv_rules.specs.Verdict.{parse}
 use Rattle.rv_rules.specs.Laws.{FormIsGrammar}
-use Rattle.rv_row.proofs.Lemmas.{field32, below32, below64, wide32}
+use Rattle.rv_row.proofs.Lemmas.{field32, below32, below64, wide32, all-hold, hold}
 use Rattle.rv_rules.proofs.Lemmas.{drop-bytes, take-bytes}
-use Rattle.rv_row.proofs.Lemmas.{all_hold, hold}
-use Rattle.rv_file.proofs.Steps.{bind_ok, unless_ok, unless_holds, ok_is}
-use Rattle.rv_file.proofs.ShardLaws.{shards_in, shards_taken, shards_read}
-use Rattle.rv_file.proofs.EntryLaws.{entries_taken, entries_read}
-use Rattle.rv_file.proofs.HeaderLaws.{header_takes, header_again, length-header_bytes}
+use Rattle.rv_file.proofs.Steps.{bind-ok, unless-ok, unless-holds, ok-is}
+use Rattle.rv_file.proofs.ShardLaws.{shards_in, shards-taken, shards-read}
+use Rattle.rv_file.proofs.EntryLaws.{entries-taken, entries-read}
+use Rattle.rv_file.proofs.HeaderLaws.{header-takes, header-again, length-header_bytes}
 
 -- ---- the checks of a header
 
@@ -71,65 +70,65 @@ pub record HeaderGood (file : List ℕ) : Type 0 where
   pub known : take 8 file ≡ magic (header_of file).version
   pub fits : HeaderFits (header_of file)
 
-version_in : (b : Bool) → IsInRange 1 2 (if b then 2 else 1)
-version_in true = (omega arith, omega arith)
-version_in false = (omega arith, omega arith)
+version-in : (b : Bool) → IsInRange 1 2 (if b then 2 else 1)
+version-in true = (omega arith, omega arith)
+version-in false = (omega arith, omega arith)
 
-hash_fits : (file : List ℕ) (at : ℕ) → AreBytes file → at + 64 ≤ length file → AreNumbers 64 8 (take 64 (drop at file))
-hash_fits file at fits room =
+hash-fits : (file : List ℕ) (at : ℕ) → AreBytes file → at + 64 ≤ length file → AreNumbers 64 8 (take 64 (drop at file))
+hash-fits file at fits room =
     (length-take-le 64 (drop at file) (omega (arith, length-drop at file)), take-bytes 64 (drop at file) (drop-bytes at file fits))
 
-plain_holds : (a b : ℕ) → (a == 0 || b == 0) ≡ true → (a ≡ 0) ⊎ (b ≡ 0)
-plain_holds a b e = elim (or_cases (a == 0) (b == 0) e) [ inl x ↦ inl (eqb-true a 0 x) | inr y ↦ inr (eqb-true b 0 y) ]
+plain-holds : (a b : ℕ) → (a == 0 || b == 0) ≡ true → (a ≡ 0) ⊎ (b ≡ 0)
+plain-holds a b e = elim (or_cases (a == 0) (b == 0) e) [ inl x ↦ inl (eqb-true a 0 x) | inr y ↦ inr (eqb-true b 0 y) ]
 
-plain_again : (a b : ℕ) → (a ≡ 0) ⊎ (b ≡ 0) → (a == 0 || b == 0) ≡ true
-plain_again a b (inl x) = or_left (a == 0) (b == 0) (eq-eqb a 0 x)
-plain_again a b (inr y) = or_right (a == 0) (b == 0) (eq-eqb b 0 y)
+plain-again : (a b : ℕ) → (a ≡ 0) ⊎ (b ≡ 0) → (a == 0 || b == 0) ≡ true
+plain-again a b (inl x) = or_left (a == 0) (b == 0) (eq-eqb a 0 x)
+plain-again a b (inr y) = or_right (a == 0) (b == 0) (eq-eqb b 0 y)
 
-pub header_good : (file : List ℕ) → AreBytes file → first_broken (all_checks file) ≡ None → HeaderGood file
-header_good file fits e =
+pub header-good : (file : List ℕ) → AreBytes file → first_broken (all_checks file) ≡ None → HeaderGood file
+header-good file fits e =
     let h = header_of file in
-    let c1 = all_hold (1, is_long file) ((2, is_known file) ∷ from_3 file) e in
-    let c2 = all_hold (2, is_known file) (from_3 file) c1.1 in
-    let c5 = all_hold (5, size_holds h) (from_6 file) c2.1 in
-    let c6 = all_hold (6, counts_hold h) (from_7 file) c5.1 in
-    let c7 = all_hold (7, end_holds h) (from_8 file) c6.1 in
-    let c8 = all_hold (8, output_holds h) ((1, output_there file) ∷ []) c7.1 in
-    let c9 = all_hold (1, output_there file) [] c8.1 in
+    let c1 = all-hold (1, is_long file) ((2, is_known file) ∷ from_3 file) e in
+    let c2 = all-hold (2, is_known file) (from_3 file) c1.1 in
+    let c5 = all-hold (5, size_holds h) (from_6 file) c2.1 in
+    let c6 = all-hold (6, counts_hold h) (from_7 file) c5.1 in
+    let c7 = all-hold (7, end_holds h) (from_8 file) c6.1 in
+    let c8 = all-hold (8, output_holds h) ((1, output_there file) ∷ []) c7.1 in
+    let c9 = all-hold (1, output_there file) [] c8.1 in
     let size = and_parts (nat_le 1 h.size) (nat_le h.size 65536) c5.0 in
     let counts = and_parts (nat_le 1 h.steps && h.shards == div_ceil h.steps h.size) (nat_le h.shards 65536) c6.0 in
     let steps = and_parts (nat_le 1 h.steps) (h.shards == div_ceil h.steps h.size) counts.0 in
     let end = and_parts (nat_le h.end.kind 5) (h.end.kind == 0 || h.end.code == 0) c7.0 in
     let long : 173 ≤ length file = leb-true 173 (length file) c1.0 in
     let steps_below : h.steps < 2 ^ 64 = below64 file 140 fits in
-    let at_least : 1 ≤ h.steps = leb-true 1 h.steps steps.0 in
+    let at-least : 1 ≤ h.steps = leb-true 1 h.steps steps.0 in
     record {
       room = leb-true (173 + h.length) (length file) c9.0;
       known = (bytes_eq-Decides (take 8 file) (magic h.version)).0 c2.0;
       fits = record {
-        version = version_in (slice_index file 7 == 0x32);
-        elf = hash_fits file 8 fits (omega arith);
-        input = hash_fits file 72 fits (omega arith);
+        version = version-in (slice_index file 7 == 0x32);
+        elf = hash-fits file 8 fits (omega arith);
+        input = hash-fits file 72 fits (omega arith);
         size = (leb-true 1 h.size size.0, leb-true h.size 65536 size.1);
-        steps = (at_least, omega arith);
+        steps = (at-least, omega arith);
         shards = eqb-true h.shards (div_ceil h.steps h.size) steps.1;
         shards_within = leb-true h.shards 65536 counts.1;
         kind = leb-true h.end.kind 5 end.0;
         code = below32 file 153 fits;
-        code_of_exit = plain_holds h.end.kind h.end.code end.1;
+        code_of_exit = plain-holds h.end.kind h.end.code end.1;
         consumed = below64 file 157 fits;
         length = leb-true h.length 67108864 c8.0;
       };
     }
 
-header_holds : (file : List ℕ) → HeaderGood file → first_broken (all_checks file) ≡ None
-header_holds file good =
+header-holds : (file : List ℕ) → HeaderGood file → first_broken (all_checks file) ≡ None
+header-holds file good =
     let h = header_of file in
     let fits = good.fits in
     let size = and_from (nat_le 1 h.size) (nat_le h.size 65536) (le-leb 1 h.size fits.size.0) (le-leb h.size 65536 fits.size.1) in
     let counts = and_from (nat_le 1 h.steps && h.shards == div_ceil h.steps h.size) (nat_le h.shards 65536)
     (and_from (nat_le 1 h.steps) (h.shards == div_ceil h.steps h.size) (le-leb 1 h.steps fits.steps.0) (eq-eqb h.shards (div_ceil h.steps h.size) fits.shards)) (le-leb h.shards 65536 fits.shards_within) in
-    let end = and_from (nat_le h.end.kind 5) (h.end.kind == 0 || h.end.code == 0) (le-leb h.end.kind 5 fits.kind) (plain_again h.end.kind h.end.code fits.code_of_exit) in
+    let end = and_from (nat_le h.end.kind 5) (h.end.kind == 0 || h.end.code == 0) (le-leb h.end.kind 5 fits.kind) (plain-again h.end.kind h.end.code fits.code_of_exit) in
     hold (1, is_long file) ((2, is_known file) ∷ from_3 file) (le-leb 173 (length file) (omega (arith, good.room)))
     (hold (2, is_known file) (from_3 file) ((bytes_eq-Decides (take 8 file) (magic h.version)).1 good.known)
     (hold (5, size_holds h) (from_6 file) size
@@ -158,9 +157,9 @@ module _ {A : Type 0} (finish : ℕ → Parts → List ℕ → Result A Refusal)
 abbrev pub ends_parse : ℕ → Parts → List ℕ → Result Parts Refusal
 ends_parse count p left = unless_broken p.header.shards count ((25, true) ∷ (26, true) ∷ (27, length left == 0) ∷ []) p
 
-pub parse_is : (file : List ℕ) → parse file ≡ chain ends_parse file
+pub parse-is : (file : List ℕ) → parse file ≡ chain ends_parse file
 unfolding read_file
-parse_is file = refl
+parse-is file = refl
 
 -- what was read
 pub record FileTaken (file : List ℕ) (count : ℕ) (p : Parts) (left : List ℕ) : Type 0 where
@@ -172,36 +171,36 @@ pub record FileTaken (file : List ℕ) (count : ℕ) (p : Parts) (left : List �
 join : (a b c d e rest : List ℕ) → a ++ (b ++ (c ++ (d ++ (e ++ rest)))) ≡ (((a ++ b) ++ c) ++ (d ++ e)) ++ rest
 join a b c d e rest = sym (simp append_assoc)
 
-pub chain_taken : {A : Type 0} (finish : ℕ → Parts → List ℕ → Result A Refusal) (file : List ℕ) (y : A) → AreBytes file → chain finish file ≡ Ok y
+pub chain-taken : {A : Type 0} (finish : ℕ → Parts → List ℕ → Result A Refusal) (file : List ℕ) (y : A) → AreBytes file → chain finish file ≡ Ok y
     → (count : ℕ) × (p : Parts) × (left : List ℕ) × FileTaken file count p left × (finish count p left ≡ Ok y)
 unfolding file_bytes table_bytes
-chain_taken finish file y fits e =
+chain-taken finish file y fits e =
     let h = header_of file in
     let body = drop 173 file in
     let place = first_place false tiny_lanes [] [] h in
-    let a = bind_ok (unless_broken 0 0 (all_checks file) body) (after_header finish h) y e in
-    let u = unless_ok 0 0 (all_checks file) body a.0 a.1 in
-    let good = header_good file fits u.0 in
+    let a = bind-ok (unless_broken 0 0 (all_checks file) body) (after_header finish h) y e in
+    let u = unless-ok 0 0 (all_checks file) body a.0 a.1 in
+    let good = header-good file fits u.0 in
     let body_fits = drop-bytes 173 file fits in
     let go : after_header finish h body ≡ Ok y = ap (λ (xs : List ℕ). after_header finish h xs) u.1 ∙ a.2 in
     let output = take h.length body in
     let rest = drop h.length body in
-    let b = bind_ok (shards_in h.shards h output 0 place rest) (after_shards finish h output) y go in
-    let shards = shards_taken h.shards h output 0 place rest b.0 (drop-bytes h.length body body_fits) b.1 in
+    let b = bind-ok (shards_in h.shards h output 0 place rest) (after_shards finish h output) y go in
+    let shards = shards-taken h.shards h output 0 place rest b.0 (drop-bytes h.length body body_fits) b.1 in
     let left = b.0.left in
-    let c = bind_ok (unless_broken h.shards 0 ((1, nat_le 4 (length left)) ∷ []) (drop 4 left)) (after_count finish h output b.0) y b.2 in
-    let v = unless_ok h.shards 0 ((1, nat_le 4 (length left)) ∷ []) (drop 4 left) c.0 c.1 in
-    let there : 4 ≤ length left = leb-true 4 (length left) (all_hold (1, nat_le 4 (length left)) [] v.0).0 in
+    let c = bind-ok (unless_broken h.shards 0 ((1, nat_le 4 (length left)) ∷ []) (drop 4 left)) (after_count finish h output b.0) y b.2 in
+    let v = unless-ok h.shards 0 ((1, nat_le 4 (length left)) ∷ []) (drop 4 left) c.0 c.1 in
+    let there : 4 ≤ length left = leb-true 4 (length left) (all-hold (1, nat_le 4 (length left)) [] v.0).0 in
     let went : after_count finish h output b.0 (drop 4 left) ≡ Ok y = ap (λ (xs : List ℕ). after_count finish h output b.0 xs) v.1 ∙ c.2 in
     let count = u32_at left 0 in
-    let d = bind_ok (read_entries count h 0 None (drop 4 left)) (λ entries. finish count (record { header = h; output = output; shards = b.0.part; table = entries.0 }) entries.1) y went in
-    let entries = entries_taken count h 0 None (drop 4 left) d.0 (drop-bytes 4 left shards.rest) d.1 in
+    let d = bind-ok (read_entries count h 0 None (drop 4 left)) (λ entries. finish count (record { header = h; output = output; shards = b.0.part; table = entries.0 }) entries.1) y went in
+    let entries = entries-taken count h 0 None (drop 4 left) d.0 (drop-bytes 4 left shards.rest) d.1 in
     let p : Parts = record { header = h; output = output; shards = b.0.part; table = d.0.0 } in
     let table = flat_map entry_bytes d.0.0 in
     let number : to_le_bytes w32 (length d.0.0) ++ drop 4 left ≡ left = ap (λ n. to_le_bytes w32 n ++ drop 4 left) entries.count ∙ field32 left 0 4 shards.rest refl there in
     let below : count < 2 ^ 32 = below32 left 0 shards.rest in
     let spelled : file ≡ file_bytes p ++ d.0.1 =
-    sym (header_takes file fits (omega (arith, good.room)) good.known)
+    sym (header-takes file fits (omega (arith, good.room)) good.known)
     ∙ ap (λ (xs : List ℕ). header_bytes h ++ xs)
     (sym (take-append-drop h.length body)
     ∙ ap (λ (xs : List ℕ). output ++ xs)
@@ -228,13 +227,13 @@ chain_taken finish file y fits e =
       d.2,
     )
 
-magic_again : (h : Header) (rest : List ℕ) → take 8 (header_bytes h ++ rest) ≡ magic h.version
+magic-again : (h : Header) (rest : List ℕ) → take 8 (header_bytes h ++ rest) ≡ magic h.version
 unfolding header_bytes
-magic_again h rest = refl
+magic-again h rest = refl
 
-pub chain_again : {A : Type 0} (finish : ℕ → Parts → List ℕ → Result A Refusal) (p : Parts) (rest : List ℕ) → PartsFit p → chain finish (file_bytes p ++ rest) ≡ finish (length p.table) p rest
+pub chain-again : {A : Type 0} (finish : ℕ → Parts → List ℕ → Result A Refusal) (p : Parts) (rest : List ℕ) → PartsFit p → chain finish (file_bytes p ++ rest) ≡ finish (length p.table) p rest
 unfolding file_bytes table_bytes
-chain_again finish p rest fit =
+chain-again finish p rest fit =
     let h = p.header in
     let place = first_place false tiny_lanes [] [] h in
     let file = file_bytes p ++ rest in
@@ -244,63 +243,63 @@ chain_again finish p rest fit =
     let tail = flat_map shard_bytes p.shards ++ left in
     let body = p.output ++ tail in
     let regrouped : file ≡ header_bytes h ++ body = sym (join (header_bytes h) p.output (flat_map shard_bytes p.shards) number (flat_map entry_bytes p.table) rest) in
-    let header_is : header_of file ≡ h = ap header_of regrouped ∙ header_again h body fit.header in
-    let body_is : drop 173 file ≡ body = ap (λ (xs : List ℕ). drop 173 xs) regrouped ∙ drop_at (header_bytes h) body 173 (length-header_bytes h fit.header) in
+    let header_is : header_of file ≡ h = ap header_of regrouped ∙ header-again h body fit.header in
+    let body-is : drop 173 file ≡ body = ap (λ (xs : List ℕ). drop 173 xs) regrouped ∙ drop_at (header_bytes h) body 173 (length-header_bytes h fit.header) in
     let long : length file ≡ 173 + length body = ap length regrouped ∙ length-append (header_bytes h) body ∙ ap (λ n. n + length body) (length-header_bytes h fit.header) in
     let stated : (header_of file).length ≡ h.length = ap (λ (k : Header). k.length) header_is in
     let good : HeaderGood file = record {
       room = omega (arith, long, stated, length-append p.output tail, fit.output.0);
-      known = ap (λ (xs : List ℕ). take 8 xs) regrouped ∙ magic_again h body ∙ ap (λ (k : Header). magic k.version) (sym header_is);
+      known = ap (λ (xs : List ℕ). take 8 xs) regrouped ∙ magic-again h body ∙ ap (λ (k : Header). magic k.version) (sym header_is);
       fits = subst (λ (k : Header). HeaderFits k) (sym header_is) fit.header;
     } in
     let opened : unless_broken 0 0 (all_checks file) (drop 173 file) ≡ Ok body =
-    unless_holds 0 0 (all_checks file) (drop 173 file) (header_holds file good) ∙ (λ t. Ok (body_is t)) in
-    let output_is : take h.length body ≡ p.output = take_at p.output tail h.length fit.output.0 in
+    unless-holds 0 0 (all_checks file) (drop 173 file) (header-holds file good) ∙ (λ t. Ok (body-is t)) in
+    let output-is : take h.length body ≡ p.output = take_at p.output tail h.length fit.output.0 in
     let tail_is : drop h.length body ≡ tail = drop_at p.output tail h.length fit.output.0 in
     let shards : Reading (List Shard) = record { part = p.shards; place = place; left = left } in
     let few : 0 + length p.shards ≤ 65536 = omega (arith, fit.count, fit.header.shards_within) in
-    let shards_are : shards_in h.shards h p.output 0 place tail ≡ Ok shards =
-    ap (λ n. shards_in n h p.output 0 place tail) (sym fit.count) ∙ shards_read p.shards h p.output 0 place left fit.header.size.1 few fit.shards in
+    let shards-are : shards_in h.shards h p.output 0 place tail ≡ Ok shards =
+    ap (λ n. shards_in n h p.output 0 place tail) (sym fit.count) ∙ shards-read p.shards h p.output 0 place left fit.header.size.1 few fit.shards in
     let counted : unless_broken h.shards 0 ((1, nat_le 4 (length left)) ∷ []) (drop 4 left) ≡ Ok entries =
-    unless_holds h.shards 0 ((1, nat_le 4 (length left)) ∷ []) (drop 4 left) (hold (1, nat_le 4 (length left)) [] (le-leb 4 (length left) (omega (arith, length-append number entries))) refl) in
+    unless-holds h.shards 0 ((1, nat_le 4 (length left)) ∷ []) (drop 4 left) (hold (1, nat_le 4 (length left)) [] (le-leb 4 (length left) (omega (arith, length-append number entries))) refl) in
     let count_is : u32_at left 0 ≡ length p.table = wide32.again (length p.table) entries fit.table in
-    let entries_are : read_entries (length p.table) h 0 None entries ≡ Ok (p.table, rest) = entries_read p.table h 0 rest fit.entries fit.rising in
+    let entries_are : read_entries (length p.table) h 0 None entries ≡ Ok (p.table, rest) = entries-read p.table h 0 rest fit.entries fit.rising in
     ap (λ r. r >>= after_header finish (header_of file)) opened
     ∙ ap (λ (k : Header). after_header finish k body) header_is
-    ∙ (λ t. shards_in h.shards h (output_is t) 0 place (tail_is t) >>= after_shards finish h (output_is t))
-    ∙ ap (λ r. r >>= after_shards finish h p.output) shards_are
+    ∙ (λ t. shards_in h.shards h (output-is t) 0 place (tail_is t) >>= after_shards finish h (output-is t))
+    ∙ ap (λ r. r >>= after_shards finish h p.output) shards-are
     ∙ ap (λ r. r >>= after_count finish h p.output shards) counted
     ∙ (λ t. read_entries (count_is t) h 0 None entries >>= λ es. finish (count_is t) (record { header = h; output = p.output; shards = p.shards; table = es.0 }) es.1)
     ∙ ap (λ r. r >>= λ es. finish (length p.table) (record { header = h; output = p.output; shards = p.shards; table = es.0 }) es.1) entries_are
 
-pub is_spelled : (file : List ℕ) (p : Parts) → AreBytes file → parse file ≡ Ok p → Spells p file
-is_spelled file p fits e =
-    let k = chain_taken ends_parse file p fits (sym (parse_is file) ∙ e) in
+pub is-spelled : (file : List ℕ) (p : Parts) → AreBytes file → parse file ≡ Ok p → Spells p file
+is-spelled file p fits e =
+    let k = chain-taken ends_parse file p fits (sym (parse-is file) ∙ e) in
     let q = k.1 in
     let left = k.2 in
-    let u = unless_ok q.header.shards k.0 ((25, true) ∷ (26, true) ∷ (27, length left == 0) ∷ []) q p k.4 in
-    let none : left ≡ [] = nil_from_length left (eqb-true (length left) 0 (all_hold (27, length left == 0) [] u.0).0) in
+    let u = unless-ok q.header.shards k.0 ((25, true) ∷ (26, true) ∷ (27, length left == 0) ∷ []) q p k.4 in
+    let none : left ≡ [] = nil_from_length left (eqb-true (length left) 0 (all-hold (27, length left == 0) [] u.0).0) in
     subst (λ (r : Parts). Spells r file) u.1 (record {
       fit = k.3.fit;
       is = k.3.spelled ∙ ap (λ (xs : List ℕ). file_bytes q ++ xs) none ∙ append-nil (file_bytes q);
     })
 
-pub is_parsed : (file : List ℕ) (p : Parts) → Spells p file → parse file ≡ Ok p
-is_parsed file p spells =
-    parse_is file
+pub is-parsed : (file : List ℕ) (p : Parts) → Spells p file → parse file ≡ Ok p
+is-parsed file p spells =
+    parse-is file
     ∙ ap (λ (xs : List ℕ). chain ends_parse xs) (spells.is ∙ sym (append-nil (file_bytes p)))
-    ∙ chain_again ends_parse p [] spells.fit
+    ∙ chain-again ends_parse p [] spells.fit
 
-pub form_is_grammar : FormIsGrammar
-form_is_grammar file p fits = (λ e. is_spelled file p fits e, λ s. is_parsed file p s)
+pub form-is-grammar : FormIsGrammar
+form-is-grammar file p fits = (λ e. is-spelled file p fits e, λ s. is-parsed file p s)
 
 abbrev parts_and_left : ℕ → Parts → List ℕ → Result (Parts × List ℕ) Refusal
 parts_and_left count p left = Ok (p, left)
 
-pub no_proper_prefix : NoProperPrefix
-no_proper_prefix p q rest p_fit q_fit same =
+pub no-proper-prefix : NoProperPrefix
+no-proper-prefix p q rest p_fit q_fit same =
     let both : (p, rest) ≡ (q, []) =
-    ok_is (p, rest) (q, []) (sym (chain_again parts_and_left p rest p_fit)
+    ok-is (p, rest) (q, []) (sym (chain-again parts_and_left p rest p_fit)
     ∙ ap (λ (xs : List ℕ). chain parts_and_left xs) (same ∙ sym (append-nil (file_bytes q)))
-    ∙ chain_again parts_and_left q [] q_fit) in
+    ∙ chain-again parts_and_left q [] q_fit) in
     (ap (λ (x : Parts × List ℕ). x.1) both, ap (λ (x : Parts × List ℕ). x.0) both)

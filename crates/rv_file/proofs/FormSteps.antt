@@ -27,36 +27,36 @@ at_table h table = numbered h table >>= at_entries h table
 abbrev at_shards : List ℕ → Header → Result (Header × ℕ) Refusal
 at_shards file h = shards_left h.shards h 0 (drop (173 + h.length) file) >>= at_table h
 
-pub header_refused : (file : List ℕ) (e : Refusal) → opened file ≡ Err e → form_left file ≡ Err e
+pub header-refused : (file : List ℕ) (e : Refusal) → opened file ≡ Err e → form_left file ≡ Err e
 unfolding form_left
-header_refused file e is = ap (λ r. r >>= at_shards file) is
+header-refused file e is = ap (λ r. r >>= at_shards file) is
 
-reaches_shards : (file start : List ℕ) (h : Header) → opened file ≡ Ok h → start ≡ drop (173 + h.length) file → form_left file ≡ (shards_left h.shards h 0 start >>= at_table h)
+reaches-shards : (file start : List ℕ) (h : Header) → opened file ≡ Ok h → start ≡ drop (173 + h.length) file → form_left file ≡ (shards_left h.shards h 0 start >>= at_table h)
 unfolding form_left
-reaches_shards file start h is from = ap (λ r. r >>= at_shards file) is ∙ ap (λ (xs : List ℕ). shards_left h.shards h 0 xs >>= at_table h) (sym from)
+reaches-shards file start h is from = ap (λ r. r >>= at_shards file) is ∙ ap (λ (xs : List ℕ). shards_left h.shards h 0 xs >>= at_table h) (sym from)
 
-pub shards_refused : (file start : List ℕ) (h : Header) (e : Refusal) → opened file ≡ Ok h → start ≡ drop (173 + h.length) file → shards_left h.shards h 0 start ≡ Err e → form_left file ≡ Err e
-shards_refused file start h e is from refused = reaches_shards file start h is from ∙ ap (λ r. r >>= at_table h) refused
+pub shards-refused : (file start : List ℕ) (h : Header) (e : Refusal) → opened file ≡ Ok h → start ≡ drop (173 + h.length) file → shards_left h.shards h 0 start ≡ Err e → form_left file ≡ Err e
+shards-refused file start h e is from refused = reaches-shards file start h is from ∙ ap (λ r. r >>= at_table h) refused
 
-reaches_table : (file start table : List ℕ) (h : Header) → opened file ≡ Ok h → start ≡ drop (173 + h.length) file → shards_left h.shards h 0 start ≡ Ok table → form_left file ≡ at_table h table
-reaches_table file start table h is from went = reaches_shards file start h is from ∙ ap (λ r. r >>= at_table h) went
+reaches-table : (file start table : List ℕ) (h : Header) → opened file ≡ Ok h → start ≡ drop (173 + h.length) file → shards_left h.shards h 0 start ≡ Ok table → form_left file ≡ at_table h table
+reaches-table file start table h is from went = reaches-shards file start h is from ∙ ap (λ r. r >>= at_table h) went
 
-pub count_refused : (file start table : List ℕ) (h : Header) (e : Refusal) → opened file ≡ Ok h → start ≡ drop (173 + h.length) file → shards_left h.shards h 0 start ≡ Ok table
+pub count-refused : (file start table : List ℕ) (h : Header) (e : Refusal) → opened file ≡ Ok h → start ≡ drop (173 + h.length) file → shards_left h.shards h 0 start ≡ Ok table
     → numbered h table ≡ Err e → form_left file ≡ Err e
-count_refused file start table h e is from went refused = reaches_table file start table h is from went ∙ ap (λ r. r >>= at_entries h table) refused
+count-refused file start table h e is from went refused = reaches-table file start table h is from went ∙ ap (λ r. r >>= at_entries h table) refused
 
-reaches_entries : (file start table entries : List ℕ) (h : Header) (count : ℕ) → opened file ≡ Ok h → start ≡ drop (173 + h.length) file → shards_left h.shards h 0 start ≡ Ok table
+reaches-entries : (file start table entries : List ℕ) (h : Header) (count : ℕ) → opened file ≡ Ok h → start ≡ drop (173 + h.length) file → shards_left h.shards h 0 start ≡ Ok table
     → numbered h table ≡ Ok entries → count ≡ u32_at table 0 → form_left file ≡ (entries_left count h 0 None entries >>= at_end h count)
-reaches_entries file start table entries h count is from went counted stated =
-    reaches_table file start table h is from went ∙ ap (λ r. r >>= at_entries h table) counted
+reaches-entries file start table entries h count is from went counted stated =
+    reaches-table file start table h is from went ∙ ap (λ r. r >>= at_entries h table) counted
     ∙ ap (λ n. entries_left n h 0 None entries >>= at_end h n) (sym stated)
 
-pub entries_refused : (file start table entries : List ℕ) (h : Header) (count : ℕ) (e : Refusal) → opened file ≡ Ok h → start ≡ drop (173 + h.length) file → shards_left h.shards h 0 start ≡ Ok table
+pub entries-refused : (file start table entries : List ℕ) (h : Header) (count : ℕ) (e : Refusal) → opened file ≡ Ok h → start ≡ drop (173 + h.length) file → shards_left h.shards h 0 start ≡ Ok table
     → numbered h table ≡ Ok entries → count ≡ u32_at table 0 → entries_left count h 0 None entries ≡ Err e → form_left file ≡ Err e
-entries_refused file start table entries h count e is from went counted stated refused =
-    reaches_entries file start table entries h count is from went counted stated ∙ ap (λ r. r >>= at_end h count) refused
+entries-refused file start table entries h count e is from went counted stated refused =
+    reaches-entries file start table entries h count is from went counted stated ∙ ap (λ r. r >>= at_end h count) refused
 
-pub reaches_end : (file start table entries left : List ℕ) (h : Header) (count : ℕ) → opened file ≡ Ok h → start ≡ drop (173 + h.length) file → shards_left h.shards h 0 start ≡ Ok table
+pub reaches-end : (file start table entries left : List ℕ) (h : Header) (count : ℕ) → opened file ≡ Ok h → start ≡ drop (173 + h.length) file → shards_left h.shards h 0 start ≡ Ok table
     → numbered h table ≡ Ok entries → count ≡ u32_at table 0 → entries_left count h 0 None entries ≡ Ok left → form_left file ≡ unless_broken h.shards count ((27, length left == 0) ∷ []) (h, count)
-reaches_end file start table entries left h count is from went counted stated over =
-    reaches_entries file start table entries h count is from went counted stated ∙ ap (λ r. r >>= at_end h count) over
+reaches-end file start table entries left h count is from went counted stated over =
+    reaches-entries file start table entries h count is from went counted stated ∙ ap (λ r. r >>= at_end h count) over

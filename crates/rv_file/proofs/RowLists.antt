@@ -13,8 +13,8 @@ use Rattle.rv_rules.specs.Reading.{Reading, row_of, row_form, read_row, read_row
 use Rattle.rv_rules.specs.Checks.{◌>>=◌}
 use Rattle.rv_rules.proofs.Lemmas.{drop-bytes}
 use Rattle.rv_spec.specs.Words.{AreBytes}
-use Rattle.rv_row.proofs.Lemmas.{row_takes, row_fits, row_again, good_form, form_holds, good_again, length-row_bytes}
-use Rattle.rv_file.proofs.Steps.{bind_ok, unless_ok, unless_holds, ok_is}
+use Rattle.rv_row.proofs.Lemmas.{row-takes, row-fits, row-again, good-form, form-holds, good-again, length-row_bytes}
+use Rattle.rv_file.proofs.Steps.{bind-ok, unless-ok, unless-holds, ok-is}
 
 abbrev pub row_in : Header → List ℕ → ℕ → ℕ → Place → List ℕ → Result (Reading Row) Refusal
 row_in h output i r p bytes = read_row false tiny_lanes [] [] h output i r p bytes
@@ -27,16 +27,16 @@ record RowTaken (bytes : List ℕ) (x : Reading Row) : Type 0 where
   pub fits : RowFits x.part
   pub rest : AreBytes x.left
 
-row_taken : (h : Header) (output : List ℕ) (i r : ℕ) (p : Place) (bytes : List ℕ) (x : Reading Row) → AreBytes bytes → row_in h output i r p bytes ≡ Ok x → RowTaken bytes x
+row-taken : (h : Header) (output : List ℕ) (i r : ℕ) (p : Place) (bytes : List ℕ) (x : Reading Row) → AreBytes bytes → row_in h output i r p bytes ≡ Ok x → RowTaken bytes x
 unfolding read_row
-row_taken h output i r p bytes x fits e =
+row-taken h output i r p bytes x fits e =
     let n = 9 + 21 * get_or bytes 8 0 in
     let made : Reading Row = record { part = row_of bytes; place = p; left = drop n bytes } in
-    let u = unless_ok i r (row_form bytes) made x e in
-    let good = good_form bytes u.0 in
+    let u = unless-ok i r (row_form bytes) made x e in
+    let good = good-form bytes u.0 in
     subst (λ (y : Reading Row). RowTaken bytes y) u.1 (record {
-      spelled = sym (row_takes bytes fits good.room);
-      fits = row_fits bytes fits good.count;
+      spelled = sym (row-takes bytes fits good.room);
+      fits = row-fits bytes fits good.count;
       rest = drop-bytes n bytes fits;
     })
 
@@ -49,17 +49,17 @@ pub record RowsTaken (n : ℕ) (bytes : List ℕ) (x : Reading (List Row)) : Typ
 abbrev pub with_row : Reading Row → Reading (List Row) → Reading (List Row)
 with_row first others = record { part = first.part ∷ others.part; place = others.place; left = others.left }
 
-pub rows_taken : (n : ℕ) (h : Header) (output : List ℕ) (i r : ℕ) (p : Place) (bytes : List ℕ) (x : Reading (List Row)) → AreBytes bytes → rows_in n h output i r p bytes ≡ Ok x → RowsTaken n bytes x
+pub rows-taken : (n : ℕ) (h : Header) (output : List ℕ) (i r : ℕ) (p : Place) (bytes : List ℕ) (x : Reading (List Row)) → AreBytes bytes → rows_in n h output i r p bytes ≡ Ok x → RowsTaken n bytes x
 unfolding read_rows
-rows_taken zero h output i r p bytes x fits e =
+rows-taken zero h output i r p bytes x fits e =
     let none : Reading (List Row) = record { part = []; place = p; left = bytes } in
-    subst (λ (y : Reading (List Row)). RowsTaken zero bytes y) (ok_is none x e) (record { spelled = refl; fits = tt; count = refl; rest = fits })
-rows_taken (suc n) h output i r p bytes x fits e =
-    let a = bind_ok (row_in h output i r p bytes) (λ first. rows_in n h output i (r + 1) first.place first.left >>= λ others. Ok (with_row first others)) x e in
-    let one = row_taken h output i r p bytes a.0 fits a.1 in
-    let b = bind_ok (rows_in n h output i (r + 1) a.0.place a.0.left) (λ others. Ok (with_row a.0 others)) x a.2 in
-    let more = rows_taken n h output i (r + 1) a.0.place a.0.left b.0 one.rest b.1 in
-    subst (λ (y : Reading (List Row)). RowsTaken (suc n) bytes y) (ok_is (with_row a.0 b.0) x b.2) (record {
+    subst (λ (y : Reading (List Row)). RowsTaken zero bytes y) (ok-is none x e) (record { spelled = refl; fits = tt; count = refl; rest = fits })
+rows-taken (suc n) h output i r p bytes x fits e =
+    let a = bind-ok (row_in h output i r p bytes) (λ first. rows_in n h output i (r + 1) first.place first.left >>= λ others. Ok (with_row first others)) x e in
+    let one = row-taken h output i r p bytes a.0 fits a.1 in
+    let b = bind-ok (rows_in n h output i (r + 1) a.0.place a.0.left) (λ others. Ok (with_row a.0 others)) x a.2 in
+    let more = rows-taken n h output i (r + 1) a.0.place a.0.left b.0 one.rest b.1 in
+    subst (λ (y : Reading (List Row)). RowsTaken (suc n) bytes y) (ok-is (with_row a.0 b.0) x b.2) (record {
       spelled =
           one.spelled ∙ ap (λ (xs : List ℕ). row_bytes a.0.part ++ xs) more.spelled
           ∙ sym (append_assoc (row_bytes a.0.part) (flat_map row_bytes b.0.part) b.0.left);
@@ -68,29 +68,29 @@ rows_taken (suc n) h output i r p bytes x fits e =
       rest = more.rest;
     })
 
-count_again : (r : Row) (rest : List ℕ) → get_or (row_bytes r ++ rest) 8 0 ≡ length r.accesses
+count-again : (r : Row) (rest : List ℕ) → get_or (row_bytes r ++ rest) 8 0 ≡ length r.accesses
 unfolding row_bytes
-count_again r rest = refl
+count-again r rest = refl
 
-row_read : (row : Row) (h : Header) (output : List ℕ) (i r : ℕ) (p : Place) (rest : List ℕ) → RowFits row → row_in h output i r p (row_bytes row ++ rest) ≡ Ok (record { part = row; place = p; left = rest })
+row-read : (row : Row) (h : Header) (output : List ℕ) (i r : ℕ) (p : Place) (rest : List ℕ) → RowFits row → row_in h output i r p (row_bytes row ++ rest) ≡ Ok (record { part = row; place = p; left = rest })
 unfolding read_row
-row_read row h output i r p rest fits =
+row-read row h output i r p rest fits =
     let bytes = row_bytes row ++ rest in
     let n = 9 + 21 * get_or bytes 8 0 in
-    let size : length (row_bytes row) ≡ n = length-row_bytes row ∙ ap (λ k. 9 + 21 * k) (sym (count_again row rest)) in
+    let size : length (row_bytes row) ≡ n = length-row_bytes row ∙ ap (λ k. 9 + 21 * k) (sym (count-again row rest)) in
     let made : Reading Row = record { part = row_of bytes; place = p; left = drop n bytes } in
-    let row_is = row_again row rest fits in
+    let row_is = row-again row rest fits in
     let left_is = drop_at (row_bytes row) rest n size in
-    unless_holds i r (row_form bytes) made (form_holds bytes (good_again row rest fits))
+    unless-holds i r (row_form bytes) made (form-holds bytes (good-again row rest fits))
     ∙ (λ t. Ok (record { part = row_is t; place = p; left = left_is t }))
 
-pub rows_read : (rs : List Row) (h : Header) (output : List ℕ) (i r : ℕ) (p : Place) (rest : List ℕ) → AllByRecursion RowFits rs
+pub rows-read : (rs : List Row) (h : Header) (output : List ℕ) (i r : ℕ) (p : Place) (rest : List ℕ) → AllByRecursion RowFits rs
     → rows_in (length rs) h output i r p (flat_map row_bytes rs ++ rest) ≡ Ok (record { part = rs; place = p; left = rest })
 unfolding read_rows
-rows_read [] h output i r p rest fits = refl
-rows_read (row ∷ rs) h output i r p rest fits =
+rows-read [] h output i r p rest fits = refl
+rows-read (row ∷ rs) h output i r p rest fits =
     ap (λ bytes. rows_in (suc (length rs)) h output i r p bytes) (append_assoc (row_bytes row) (flat_map row_bytes rs) rest)
-    ∙ rw (row_read row h output i r p (flat_map row_bytes rs ++ rest) fits.0, rows_read rs h output i (r + 1) p rest fits.1) refl
+    ∙ rw (row-read row h output i r p (flat_map row_bytes rs ++ rest) fits.0, rows-read rs h output i (r + 1) p rest fits.1) refl
 
 pub length-rows : (rs : List Row) → length (flat_map row_bytes rs) ≡ rows_length rs
 length-rows [] = refl

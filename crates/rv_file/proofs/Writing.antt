@@ -27,10 +27,10 @@ length-puts at old put new room is =
 abbrev letters : List ℕ
 letters = 0x52 ∷ 0x56 ∷ 0x33 ∷ 0x32 ∷ 0x52 ∷ 0x45 ∷ 0x43 ∷ []
 
-pub hashes_written : (version : ℕ) (elf input b0 b1 b2 b3 : List ℕ) → length b0 ≡ 173 → length elf ≡ 64 → length input ≡ 64
+pub hashes-written : (version : ℕ) (elf input b0 b1 b2 b3 : List ℕ) → length b0 ≡ 173 → length elf ≡ 64 → length input ≡ 64
     → b1 ≡ with_field b0 0 letters → b2 ≡ with_field (set b1 7 (48 + version)) 8 elf → b3 ≡ with_field b2 72 input
     → take 136 b3 ≡ magic version ++ elf ++ input
-hashes_written version elf input b0 b1 b2 b3 long elf_long input_long is1 is2 is3 =
+hashes-written version elf input b0 b1 b2 b3 long elf_long input_long is1 is2 is3 =
     let digit = 48 + version in
     let n1 : length b1 ≡ 173 = length-puts 0 b0 letters b1 (omega arith) is1 ∙ long in
     let n2 : length (set b1 7 digit) ≡ 173 = length-set b1 7 digit ∙ n1 in
@@ -40,11 +40,11 @@ hashes_written version elf input b0 b1 b2 b3 long elf_long input_long is1 is2 is
     let program : take 72 b2 ≡ magic version ++ elf = puts 8 72 (set b1 7 digit) elf b2 (magic version) (omega arith) (omega arith) known is2 in
     puts 72 136 b2 input b3 (magic version ++ elf) (omega arith) (omega arith) program is3
 
-pub numbers_written : (h : Header) (b0 b1 b2 b3 b4 b5 b6 : List ℕ) → length b0 ≡ 173
+pub numbers-written : (h : Header) (b0 b1 b2 b3 b4 b5 b6 : List ℕ) → length b0 ≡ 173
     → SetsNumber w32 136 h.size b0 b1 → SetsNumber w64 140 h.steps b1 b2 → SetsNumber w32 148 h.shards b2 b3
     → SetsNumber w32 153 h.end.code (set b3 152 h.end.kind) b4 → SetsNumber w64 157 h.consumed b4 b5 → SetsNumber w64 165 h.length b5 b6
     → b6 ≡ with_numbers (take 136 b0) h
-numbers_written h b0 b1 b2 b3 b4 b5 b6 long size steps shards code consumed output =
+numbers-written h b0 b1 b2 b3 b4 b5 b6 long size steps shards code consumed output =
     let front = take 136 b0 in
     let n1 : length b1 ≡ 173 = size.size ∙ long in
     let n2 : length b2 ≡ 173 = steps.size ∙ n1 in

@@ -1,5 +1,5 @@
 -- The items of the body are harmless: they change no register that the loop or a call needs, store to the data alone, and skip one word at most.
-use Rattle.std.proofs.Common.{◌≡◌, ◌≢◌, ◌⊎◌, inl, inr, ℕ, zero, suc, ◌+◌, ◌-◌, ◌%◌, ◌<◌, ◌≤◌, ℤ, pos, Bool, true, false, ◌==◌, nat_lt, if◌then◌else◌, List, [], ◌∷◌, ◌++◌, slice_index_or, refl, sym, subst, arith}
+use Rattle.std.proofs.Common.{◌≡◌, ◌≢◌, ◌⊎◌, inl, inr, ℕ, ◌+◌, ◌-◌, ◌%◌, ◌<◌, ◌≤◌, ℤ, pos, List, slice_index_or, refl, sym, subst, arith}
 use Rattle.std.specs.List.{AllByRecursion}
 use Rattle.rv_base.specs.declared.instr.Op.TheVariants as op
 use Rattle.rv_base.specs.declared.instr.LoadKind.{LoadKind}
@@ -9,9 +9,10 @@ use Rattle.rv_base.specs.declared.instr.StoreKind.TheVariants as store
 use Rattle.rv_base.specs.declared.instr.Instr.{Instr}
 use Rattle.rv_base.specs.declared.instr.Instr.TheVariants as instr
 use Rattle.rv_spec.specs.Step.{load_width, store_width}
-use Rattle.rv_gen.specs.Draws.{Draw, draw, ◌>>=◌}
+use Rattle.rv_gen.specs.Draws.{draw, ◌>>=◌}
 use Rattle.rv_gen.specs.Programs as gen
-use Rattle.rv_gen.specs.Programs.{loads, stores, pool, small, offset, register_item, immediate_item, upper_item, load_item, store_item, branch_item, call_item, single_item, alone, item_of, item, items, word, filled}
+use Rattle.rv_gen.specs.Programs.{loads, stores, pool, small, offset, register_item, immediate_item, upper_item, load_item, store_item, branch_item, call_item, items, word, filled}
+use Rattle.rv_gen.proofs.Drawn.{draw-below, items-hold, filled-hold}
 
 -- none of x8, the base of the data, x9, the count of rounds, x11, the buffer of a call, and x17, its number
 abbrev pub IsFree : ℕ → Type 0
@@ -67,10 +68,6 @@ x12-free = ((λ e. omega arith), (λ e. omega arith), (λ e. omega arith), (λ e
 pool-free : (s : ℕ) → IsFree (pool s).0
 unfolding pool ◌>>=◌
 pool-free s = free (18 + (draw 10 s).0) (omega arith)
-
-draw-below : (n s : ℕ) → 0 < n → (draw n s).0 < n
-unfolding draw
-draw-below n s some = omega arith
 
 lowered : (o width : ℕ) → IsWidth width → (o - o % width) % width ≡ 0
 lowered o width (inl e) = subst (λ w. (o - o % w) % w ≡ 0) (sym e) (omega arith)
@@ -152,42 +149,17 @@ call-harmless s =
     let buffer : NamesBuffer (instr.OpImm op.Add 11 8 (pos f)) = record { place = f; within = within; is = refl } in
     (inr (inl named), (inl x10-free, (inr (inr buffer), (inl x12-free, (tt, tt)))))
 
-choice-harmless : (b : Bool) (x y : Draw Instr) (s : ℕ) → IsHarmless (x s).0 → IsHarmless (y s).0 → IsHarmless ((if b then x else y) s).0
-choice-harmless true x y s h k = h
-choice-harmless false x y s h k = k
-
-single-harmless : (k s : ℕ) → IsHarmless (single_item k s).0
-unfolding single_item
-single-harmless k s =
-    choice-harmless (nat_lt k 6) register_item _ s (register-harmless s)
-    (choice-harmless (nat_lt k 9) immediate_item _ s (immediate-harmless s)
-    (choice-harmless (nat_lt k 10) upper_item _ s (upper-harmless s)
-    (choice-harmless (nat_lt k 12) load_item _ s (load-harmless s) (choice-harmless (nat_lt k 14) store_item branch_item s (store-harmless s) (branch-harmless s)))))
-
-alone-harmless : (d : Draw Instr) (s : ℕ) → IsHarmless (d s).0 → AreHarmless (alone d s).0
-unfolding alone ◌>>=◌
-alone-harmless d s h = (h, tt)
-
-item-harmless : (k s : ℕ) → AreHarmless (item_of k s).0
-unfolding item_of
-item-harmless k s = go (k == 15)
-  where
-    go : (b : Bool) → AreHarmless ((if b then call_item else alone (single_item k)) s).0
-    go true = call-harmless s
-    go false = alone-harmless (single_item k) s (single-harmless k s)
-
-pub harmless-append : (is js : List Instr) → AreHarmless is → AreHarmless js → AreHarmless (is ++ js)
-harmless-append [] js h k = k
-harmless-append (i ∷ is) js h k = (h.0, harmless-append is js h.1 k)
-
 -- the items of the body
 pub items-harmless : (n s : ℕ) → AreHarmless (items n s).0
-unfolding items item ◌>>=◌
-items-harmless zero s = tt
-items-harmless (suc n) s =
-    let k = (draw 16 s).0 in
-    let t = (draw 16 s).1 in
-    harmless-append (item_of k t).0 (items n (item_of k t).1).0 (item-harmless k t) (items-harmless n (item_of k t).1)
+items-harmless = items-hold IsHarmless (record {
+  register = register-harmless;
+  immediate = immediate-harmless;
+  upper = upper-harmless;
+  load = load-harmless;
+  store = store-harmless;
+  branch = branch-harmless;
+  call = call-harmless;
+})
 
 -- the words that registers from x18 on take
 word-harmless : (r s : ℕ) → 18 ≤ r → AreHarmless (word r s).0
@@ -195,6 +167,4 @@ unfolding word ◌>>=◌
 word-harmless r s h = (free r h, (inl (free r h), tt))
 
 pub filled-harmless : (n r s : ℕ) → 18 ≤ r → AreHarmless (filled n r s).0
-unfolding filled ◌>>=◌
-filled-harmless zero r s h = tt
-filled-harmless (suc n) r s h = harmless-append (word r s).0 (filled n (r + 1) (word r s).1).0 (word-harmless r s h) (filled-harmless n (r + 1) (word r s).1 (omega arith))
+filled-harmless n r s h = filled-hold IsHarmless n r s (λ q t low high. word-harmless q t (omega (arith, h)))

@@ -8,10 +8,10 @@ use Rattle.rv_base.specs.declared.instr.Instr.{Instr}
 use Rattle.rv_spec.specs.Words.{Memory, Block, block_byte, byte, bytes_from}
 use Rattle.rv_spec.specs.Elf.{first_fault, image}
 use Rattle.rv_spec.specs.Decode.{decode}
-use Rattle.rv_rules.proofs.Lemmas.{both_true}
+use Rattle.rv_rules.proofs.Lemmas.{both-true}
 use Rattle.rv_elf.specs.ElfFile.{PartBytes}
 use Rattle.rv_elf.specs.Written.{words_bytes}
-use Rattle.rv_elf.proofs.Lemmas.{IsWritable, bodies_of, written-size as size, written-faultless as no_fault, written-image as image_is}
+use Rattle.rv_elf.proofs.Lemmas.{IsWritable, bodies_of, written-size as size, written-faultless as no-fault, written-image as image_is}
 use Rattle.rv_gen.specs.Programs.{code_start, executable_of}
 use Rattle.rv_gen.proofs.Lengths.{length-words}
 use Rattle.rv_gen.proofs.Between.{CodeAt, four-same}
@@ -61,7 +61,7 @@ module _ (words : List ℕ) (few : length words ≤ 1000) where
   executable-size = size code_start (part ∷ []) (omega arith) refl (omega arith) writable room refl ∙ (let n = bodies in omega arith)
 
   pub executable-faultless : first_fault (executable_of words) ≡ None
-  executable-faultless = no_fault code_start (part ∷ []) (omega arith) refl (omega arith) writable room refl
+  executable-faultless = no-fault code_start (part ∷ []) (omega arith) refl (omega arith) writable room refl
 
   abbrev pub code_blocks : List Block
   code_blocks = record { address = code_start; bytes = words_bytes words } ∷ []
@@ -77,7 +77,7 @@ module _ (words : List ℕ) (few : length words ≤ 1000) where
   unfolding byte block_byte
   code-byte j below =
       let a : ℕ = code_start + j in
-      let inside : (nat_le code_start a && nat_lt a (code_start + length (words_bytes words))) ≡ true = both_true _ _ (le-leb code_start a (omega arith)) (lt-ltb a (code_start + length (words_bytes words)) (omega arith)) in
+      let inside : (nat_le code_start a && nat_lt a (code_start + length (words_bytes words))) ≡ true = both-true _ _ (le-leb code_start a (omega arith)) (lt-ltb a (code_start + length (words_bytes words)) (omega arith)) in
       ap (λ b. cond b (slice_index (words_bytes words) (a - code_start)) 0) inside ∙ ap (slice_index (words_bytes words)) (let back : a - code_start ≡ j = omega arith in back)
 
   pub image-spells : (is : List Instr) → AllByRecursion (λ w. w < 2 ^ 32) words → map decode words ≡ map Some is → CodeAt code_memory 0 is

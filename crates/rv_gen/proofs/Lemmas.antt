@@ -6,3 +6,5 @@ pub use Rattle.rv_gen.proofs.Success.{programs-succeed}
 pub use Rattle.rv_gen.proofs.Success.{program-image}
 -- so many steps are within the limit of shards
 pub use Rattle.rv_gen.proofs.Success.{few-shards}
+-- the encodings of a program's instructions spell it
+pub use Rattle.rv_gen.proofs.Spelled.{program-spelled}

@@ -1,5 +1,6 @@
 pub mod Binds
 pub mod Lengths
+pub mod Drawn
 pub mod Harmless
 pub mod Between
 pub mod BodySteps
@@ -7,4 +8,6 @@ pub mod Ending
 pub mod Rounds
 pub mod Image
 pub mod Success
+pub mod Encodable
+pub mod Spelled
 pub mod Lemmas

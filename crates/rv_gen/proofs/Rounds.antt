@@ -11,7 +11,8 @@ use Rattle.rv_spec.specs.Arithmetic.{compute, taken}
 use Rattle.rv_spec.specs.Step.{State, Next, Ends, register, with_register, advance, jump, exits, stops, read_call, write_call, return_in_a0, environment_call, execute, step}
 use Rattle.rv_gen.specs.Programs.{li, code_start, data_base, front, back}
 use Rattle.rv_gen.specs.Runs.{success}
-use Rattle.rv_gen.proofs.Harmless.{AreHarmless, harmless-append}
+use Rattle.rv_gen.proofs.Drawn.{all-append}
+use Rattle.rv_gen.proofs.Harmless.{AreHarmless, IsHarmless}
 use Rattle.rv_gen.proofs.Between.{data_start, Between, Fetches, CodeAt, fetched, step-is, base-set, count-set, advances, counter-moves}
 use Rattle.rv_gen.proofs.Ending.{EndsWithin, ends-now, step-before, within-more, row-ends}
 
@@ -155,7 +156,7 @@ module _ (input : List ℕ) (m : Memory) where
       let back_at : CodeAt m (22 + n) (back n) = subst (λ k. CodeAt m k (back n)) (let place : 2 + length (start ++ body) ≡ 22 + n = omega arith in place) parts.1 in
       let later : (t : State) → Between m data_start (suc count) (suc (22 + n)) t → EndsWithin input (rounds_steps n count) t = λ t e. rounds-end body 22 count t g body_at back_at small e in
       let first : EndsWithin input (length (start ++ body) + suc (rounds_steps n count)) s =
-      row-ends input m (suc count) (start ++ body) 2 (22 + n) (suc (rounds_steps n count)) s (omega arith) (harmless-append start body h g) parts.0 b
+      row-ends input m (suc count) (start ++ body) 2 (22 + n) (suc (rounds_steps n count)) s (omega arith) (all-append IsHarmless start body h g) parts.0 b
       (λ t e. fence-before (suc count) (22 + n) (rounds_steps n count) t back_at.0 e later)
       (λ t e. within-more input (rounds_steps n count) (suc (rounds_steps n count)) t (omega arith) (later t e)) in
       let most = rounds-few n count few in

@@ -33,7 +33,7 @@ impl Generator {
     }
 
     /// A register of the pool.
-    #[tactic(auto, using(crate::proofs::Binds::bind_is), unfolding(crate::specs::Programs::pool))]
+    #[tactic(auto, using(crate::proofs::Binds::binding), unfolding(crate::specs::Programs::pool))]
     pub fn pool(&mut self) -> u8
         ensures drawn { (result, self.new.state) ≡ pool_of self.old.state }
         ensures range { result < 32 }
@@ -42,7 +42,7 @@ impl Generator {
     }
 
     /// A signed number of 12 bits.
-    #[tactic(auto, using(crate::proofs::Binds::bind_is), unfolding(crate::specs::Programs::small))]
+    #[tactic(auto, using(crate::proofs::Binds::binding), unfolding(crate::specs::Programs::small))]
     pub fn small(&mut self) -> i32
         ensures drawn { (result, self.new.state) ≡ small_of self.old.state }
         ensures range { IsSigned 12 result }
@@ -51,7 +51,7 @@ impl Generator {
     }
 
     /// A multiple of a width below 2048.
-    #[tactic(auto, using(crate::proofs::Binds::bind_is), unfolding(crate::specs::Programs::offset))]
+    #[tactic(auto, using(crate::proofs::Binds::binding), unfolding(crate::specs::Programs::offset))]
     pub fn offset(&mut self, width: u32) -> i32
         requires { 0 < width }
         ensures drawn { (result, self.new.state) ≡ offset_of width self.old.state }

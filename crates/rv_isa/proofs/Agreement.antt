@@ -17,9 +17,7 @@ use Rattle.rv_spec.specs.Trace.{access}
 use Rattle.rv_rules.specs.Expected.{Expected, touch, pc_plus_4, expected_instr, expected_any, expected}
 use Rattle.rv_rules.specs.RowRules.{seen}
 use Rattle.rv_rules.specs.Agreement.{IsState, GoesAs, touch_of, StepsAgree}
-use Rattle.rv_rules.proofs.Lemmas.{seen-in}
-use Rattle.rv_rules.proofs.Lemmas.{all-of, all-in}
-use Rattle.rv_rules.proofs.Lemmas.{word-aligned}
+use Rattle.rv_rules.proofs.Lemmas.{seen-in, all-of, all-in, word-aligned}
 use Rattle.rv_isa.proofs.Uses.{seen_in, Sees, Follows, made, goes-on}
 use Rattle.rv_isa.proofs.Operations.{lui-follows, auipc-follows, imm-follows, op-follows}
 use Rattle.rv_isa.proofs.Jumps.{jal-follows, jalr-follows, branch-follows}

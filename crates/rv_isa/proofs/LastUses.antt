@@ -12,10 +12,7 @@ use Rattle.rv_spec.specs.Trace.{tuples_left, history, last_use, left_at}
 use Rattle.rv_rules.specs.Chain.{at, value_before}
 use Rattle.rv_rules.specs.Agreement.{HoldsLastUses}
 use Rattle.rv_rules.specs.Membership.{In}
-use Rattle.rv_rules.proofs.Lemmas.{in-map, at-is}
-use Rattle.rv_rules.proofs.Lemmas.{last_use-is}
-use Rattle.rv_rules.proofs.Lemmas.{left_true, right_true}
-use Rattle.rv_rules.proofs.Lemmas.{in-append, in-left, in-right, in-map-back, all-in, all-of}
+use Rattle.rv_rules.proofs.Lemmas.{in-map, at-is, last_use-is, left-true, right-true, in-append, in-left, in-right, in-map-back, all-in, all-of}
 use Rattle.rv_isa.proofs.Slots.{Rises, slots-rise, all-within}
 use Rattle.rv_isa.proofs.Frame.{Spares, Keeps, step-keeps}
 
@@ -26,7 +23,7 @@ left-at [] c p v w m cell time same = absurd m
 left-at (x ∷ xs) c p v w m cell time same = go (at c p x) refl m (λ k. left-at xs c p v w k cell time (λ u n. same u (inr n)))
   where
     go : (b : Bool) → at c p x ≡ b → In w (x ∷ xs) → (In w xs → left_at xs c p ≡ v) → unwrap_or (option_map (λ t. t.value) (cond b (Some x) (find (at c p) xs))) 0 ≡ v
-    go true e k rest = same x (inl refl) (eqb-true x.cell c (left_true (x.cell == c) (x.time == p) e)) (eqb-true x.time p (right_true (x.cell == c) (x.time == p) e))
+    go true e k rest = same x (inl refl) (eqb-true x.cell c (left-true (x.cell == c) (x.time == p) e)) (eqb-true x.time p (right-true (x.cell == c) (x.time == p) e))
     go false e (inl is) rest =
         let passes : at c p x ≡ true = at-is c p x (ap (λ z. z.cell) (sym is) ∙ cell) (ap (λ z. z.time) (sym is) ∙ time) in
         let no : ⊥ = cc in

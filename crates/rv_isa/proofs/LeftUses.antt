@@ -242,7 +242,7 @@ module _ (s t : State) (k : ℕ) where
     rest-are ps [] mid hi p r known = refl
     rest-are ps (u ∷ us) mid hi p r known =
         let here : access_of m k (made s t ps) (touch_of (visit s t u)) ≡ access (before ++ left (ps ++ u ∷ us)) k (visit s t u) =
-        ap₂ (λ old prev. to_access u.slot u.cell old prev (visit s t u).new) known.0.0 (prev-is ps u us mid hi p r known.0) in
+        ap₂ (λ old prev. to-access u.slot u.cell old prev (visit s t u).new) known.0.0 (prev-is ps u us mid hi p r known.0) in
         let passed : made s t ps ++ touch_of (visit s t u) ∷ [] ≡ made s t (ps ++ u ∷ []) = sym (map-append (λ u. touch_of (visit s t u)) ps (u ∷ [])) in
         let whole : (ps ++ u ∷ []) ++ us ≡ ps ++ u ∷ us = append_assoc ps (u ∷ []) us in
         let more : Rises 0 (u.slot + 1) (ps ++ u ∷ []) = joined 0 mid (u.slot + 1) ps (u ∷ []) p (r.0, omega arith) in
@@ -250,8 +250,8 @@ module _ (s t : State) (k : ℕ) where
         (ap (λ (l : List Touch). accesses_of m k l (made s t us)) passed ∙ rest-are (ps ++ u ∷ []) us (u.slot + 1) hi more r.1 known.1
         ∙ ap (λ (l : List Use). map (access (before ++ left l) k) (map (visit s t) us)) whole)
       where
-        to_access : ℕ → ℕ → ℕ → ℕ → ℕ → Access
-        to_access slot cell old prev new = record { slot = slot; cell = cell; old = old; prev = prev; new = new }
+        to-access : ℕ → ℕ → ℕ → ℕ → ℕ → Access
+        to-access slot cell old prev new = record { slot = slot; cell = cell; old = old; prev = prev; new = new }
 
     pub accesses-are : (us : List Use) (lo hi : ℕ) → Rises lo hi us → AllByRecursion Known us → accesses_of m k [] (made s t us) ≡ map (access (before ++ left us) k) (map (visit s t) us)
     accesses-are us lo hi r known = rest-are [] us lo hi (omega arith) r known

@@ -21,18 +21,18 @@ word-cell c low = ap (λ b. b || (nat_lt (2 ^ 30) c && nat_lt c (2 ^ 30 + 32)) |
 pub high-cell : (c : ℕ) → 2 ^ 30 < c → c < 2 ^ 30 + 33 → IsTrue (is_cell 2 c)
 high-cell c above below = go (cases_lt c (2 ^ 30 + 32))
   where
-    no_word : nat_lt c (2 ^ 30) ≡ false
-    no_word = le-ltb c (2 ^ 30) (omega arith)
+    no-word : nat_lt c (2 ^ 30) ≡ false
+    no-word = le-ltb c (2 ^ 30) (omega arith)
 
-    not_zero : nat_lt (2 ^ 30) c ≡ true
-    not_zero = lt-ltb (2 ^ 30) c above
+    not-zero : nat_lt (2 ^ 30) c ≡ true
+    not-zero = lt-ltb (2 ^ 30) c above
 
     go : (c < 2 ^ 30 + 32) ⊎ (2 ^ 30 + 32 ≤ c) → IsTrue (is_cell 2 c)
-    go (inl low) = let register : nat_lt c (2 ^ 30 + 32) ≡ true = lt-ltb c (2 ^ 30 + 32) low in λ i. no_word i || (not_zero i && register i) || (c == reservation_cell)
+    go (inl low) = let register : nat_lt c (2 ^ 30 + 32) ≡ true = lt-ltb c (2 ^ 30 + 32) low in λ i. no-word i || (not-zero i && register i) || (c == reservation_cell)
     go (inr high) =
         let none : nat_lt c (2 ^ 30 + 32) ≡ false = le-ltb c (2 ^ 30 + 32) high in
         let last : (c == reservation_cell) ≡ true = eq-eqb c reservation_cell (omega arith) in
-        λ i. no_word i || (not_zero i && none i) || last i
+        λ i. no-word i || (not-zero i && none i) || last i
 
 abbrev HoldsIn : (ℕ → ℕ) → State → Type 0
 HoldsIn f s = (c : ℕ) → IsTrue (is_cell 2 c) → f c ≡ value s c

@@ -19,9 +19,8 @@ use Rattle.rv_spec.specs.Step.{State, Transition, Next, Ends, start, register, w
 use Rattle.rv_spec.specs.Elf.{Image}
 use Rattle.rv_spec.specs.Run.{state_after, run}
 use Rattle.rv_rules.specs.Agreement.{IsState, IsProgram, RunsAreStates}
-use Rattle.rv_rules.proofs.Lemmas.{byte-one}
+use Rattle.rv_rules.proofs.Lemmas.{byte-one, take-bytes, drop-bytes}
 use Rattle.rv_isa.proofs.WordRanges.{IsWord, index-below, register-fits}
-use Rattle.rv_rules.proofs.Lemmas.{take-bytes, drop-bytes}
 use Rattle.rv_isa.proofs.ByteLists.{word-bytes}
 use Rattle.rv_isa.proofs.Results.{compute-fits, load-fits}
 use Rattle.rv_isa.proofs.Fields.{HasFields, HasAnyFields, any-decoded}

@@ -89,10 +89,10 @@ module _ (i : Image) (input : List ℕ) (program : IsProgram i) (bytes : AreByte
           let time : e.time ≡ last e.cell = set.2 ∙ timed.times e.cell cell in
           let some : 0 < last e.cell = (let t : 0 < e.time = set.0 in omega arith) in
           let held : e.value ≡ left_at ts e.cell (last e.cell) = set.1 ∙ shows.cells e.cell cell ∙ left-value e.cell some in
-          (ap₂ (to_entry e.cell) held time, some)
+          (ap₂ (to-entry e.cell) held time, some)
         where
-          to_entry : ℕ → ℕ → ℕ → TableEntry
-          to_entry cell value time = record { cell = cell; value = value; time = time }
+          to-entry : ℕ → ℕ → ℕ → TableEntry
+          to-entry cell value time = record { cell = cell; value = value; time = time }
 
       to-used : (c : ℕ) → In c (map (λ e. e.cell) entries) → In c (rising (map (λ t. t.cell) ts))
       to-used c m =

@@ -15,8 +15,8 @@ module _ (version : ℕ) where
 
   register-is-cell : (c : ℕ) → 2 ^ 30 < c → c < 2 ^ 30 + 32 → IsTrue (is_cell version c)
   register-is-cell c lo hi =
-      let no_word : nat_lt c (2 ^ 30) ≡ false = le-ltb c (2 ^ 30) (omega (arith, lo)) in
-      λ i. no_word i || (lt-ltb (2 ^ 30) c lo i && lt-ltb c (2 ^ 30 + 32) hi i) || (version == 2 && c == reservation_cell)
+      let no-word : nat_lt c (2 ^ 30) ≡ false = le-ltb c (2 ^ 30) (omega (arith, lo)) in
+      λ i. no-word i || (lt-ltb (2 ^ 30) c lo i && lt-ltb c (2 ^ 30 + 32) hi i) || (version == 2 && c == reservation_cell)
 
   reservation-is-cell : (c : ℕ) → c ≡ reservation_cell → version ≡ 2 → IsTrue (is_cell version c)
   reservation-is-cell c is two = ap (is_cell version) is ∙ ap (λ b. b && true) (eq-eqb version 2 two)

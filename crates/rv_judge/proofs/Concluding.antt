@@ -14,9 +14,9 @@ use Rattle.rv_rules.specs.Laws.{AcceptedIsRecord, RecordIsAccepted}
 use Rattle.rv_rules.specs.Reading.{Reading, header_of, header_checks, first_place, end_checks, read_entries, read_shards, read_file}
 use Rattle.rv_rules.specs.Checks.{first_broken, unless_broken, ◌>>=◌}
 use Rattle.rv_rules.specs.Verdict.{judge, verdict, verdict_of}
-use Rattle.rv_file.proofs.Lemmas.{bind_ok, unless_ok}
+use Rattle.rv_file.proofs.Lemmas.{bind-ok, unless-ok}
 use Rattle.rv_judge.specs.Conclusions.{IsSound, AcceptsRecords}
-use Rattle.rv_judge.proofs.Headers.{has_header, shards_counted}
+use Rattle.rv_judge.proofs.Headers.{has-header, shards-counted}
 
 record IsRead (lanes : Lanes) (elf input file : List ℕ) (parts : Parts) : Type 0 where
   header : header_of file ≡ parts.header
@@ -32,22 +32,22 @@ module _ (lanes : Lanes) (elf input : List ℕ) (h : Header) (output : List ℕ)
   behind_count : List ℕ → Result Parts Refusal
   behind_count bytes = read_entries (u32_at x.left 0) h 0 None bytes >>= closed
 
-is_read : (lanes : Lanes) (elf input file : List ℕ) (parts : Parts) → judge lanes elf input file ≡ Ok parts → IsRead lanes elf input file parts
+is-read : (lanes : Lanes) (elf input file : List ℕ) (parts : Parts) → judge lanes elf input file ≡ Ok parts → IsRead lanes elf input file parts
 unfolding read_file made closed behind_count
-is_read lanes elf input file parts e =
+is-read lanes elf input file parts e =
     let h = header_of file in
     let shards_from : List ℕ → Result (Reading (List Shard)) Refusal = λ z. read_shards true lanes elf input h.shards h (take h.length z) 0 (first_place true lanes elf input h) (drop h.length z) in
-    let behind_shards : List ℕ → Reading (List Shard) → Result Parts Refusal = λ output x. unless_broken h.shards 0 ((1, nat_le 4 (length x.left)) ∷ []) (drop 4 x.left) >>= behind_count lanes elf input h output x in
-    let a = bind_ok (unless_broken 0 0 (header_checks true lanes elf input file) (drop 173 file)) (λ z. shards_from z >>= behind_shards (take h.length z)) parts e in
+    let behind-shards : List ℕ → Reading (List Shard) → Result Parts Refusal = λ output x. unless_broken h.shards 0 ((1, nat_le 4 (length x.left)) ∷ []) (drop 4 x.left) >>= behind_count lanes elf input h output x in
+    let a = bind-ok (unless_broken 0 0 (header_checks true lanes elf input file) (drop 173 file)) (λ z. shards_from z >>= behind-shards (take h.length z)) parts e in
     let output = take h.length a.0 in
-    let b = bind_ok (shards_from a.0) (behind_shards output) parts a.2 in
-    let c = bind_ok (unless_broken h.shards 0 ((1, nat_le 4 (length b.0.left)) ∷ []) (drop 4 b.0.left)) (behind_count lanes elf input h output b.0) parts b.2 in
-    let d = bind_ok (read_entries (u32_at b.0.left 0) h 0 None c.0) (closed lanes elf input h output b.0) parts c.2 in
+    let b = bind-ok (shards_from a.0) (behind-shards output) parts a.2 in
+    let c = bind-ok (unless_broken h.shards 0 ((1, nat_le 4 (length b.0.left)) ∷ []) (drop 4 b.0.left)) (behind_count lanes elf input h output b.0) parts b.2 in
+    let d = bind-ok (read_entries (u32_at b.0.left 0) h 0 None c.0) (closed lanes elf input h output b.0) parts c.2 in
     let all = made lanes elf input h output b.0 d.0 in
-    let last = unless_ok h.shards (u32_at b.0.left 0) (end_checks true lanes elf input h all b.0.place d.0.1) all parts d.2 in
+    let last = unless-ok h.shards (u32_at b.0.left 0) (end_checks true lanes elf input h all b.0.place d.0.1) all parts d.2 in
     record {
       header = ap (λ (p : Parts). p.header) last.1;
-      checks = (unless_ok 0 0 (header_checks true lanes elf input file) (drop 173 file) a.0 a.1).0;
+      checks = (unless-ok 0 0 (header_checks true lanes elf input file) (drop 173 file) a.0 a.1).0;
     }
 
 pub concluded : (lanes : Lanes) (elf input file : List ℕ) → ((parts : Parts) → AcceptedIsRecord lanes elf input file parts)
@@ -57,8 +57,8 @@ concluded lanes elf input file law faultless elf_bytes input_bytes file_bytes = 
     go : (r : Result Parts Refusal) → judge lanes elf input file ≡ r → IsSound lanes elf input file (verdict_of r)
     go (Err r) e = tt
     go (Ok parts) e =
-        let read = is_read lanes elf input file parts e in
-        let counted = shards_counted (header_of file) (has_header lanes elf input file read.checks).numbers in
+        let read = is-read lanes elf input file parts e in
+        let counted = shards-counted (header_of file) (has-header lanes elf input file read.checks).numbers in
         subst (λ (h : Header). (parts.header.shards ≡ div_ceil parts.header.steps h.size) × (IsRecord lanes h.version elf input h.size parts.header.steps parts.header.end file ⊎ IsCollision lanes elf file)) (sym read.header)
         (subst (λ (h : Header). h.shards ≡ div_ceil h.steps h.size) read.header counted, law parts faultless elf_bytes input_bytes file_bytes e)
 

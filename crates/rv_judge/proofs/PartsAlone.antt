@@ -11,13 +11,13 @@ use Rattle.rv_spec.specs.Record.{Shard, rows_length, shard_rows}
 use Rattle.rv_spec.specs.Digest.{Lanes, digest}
 use Rattle.rv_rules.specs.Checks.{Check, refused_by, unless_broken, ◌>>=◌}
 use Rattle.rv_rules.specs.Reading.{Reading, head_of, digest_of, read_entries, read_rows, read_shard, same_place, when_complete}
-use Rattle.rv_file.proofs.Lemmas.{bind_ok, unless_ok}
+use Rattle.rv_file.proofs.Lemmas.{bind-ok, unless-ok}
 use Rattle.rv_reading.specs.Stream.{State, onwards, reads}
 use Rattle.rv_reading.specs.Machine as machine
 use Rattle.rv_reading.specs.Machine.{event_sums, first_tuple, last_cell, no_sums, tuple_sums}
 use Rattle.rv_reading.specs.Machine.Phase.{Shards as ShardsOf, Entries as EntriesOf}
 use Rattle.rv_reading.specs.Machine.Extent.{ShardsAlone, TableAlone}
-use Rattle.rv_reading.proofs.Lemmas.{reads-step, shard_alone_is_read, table_alone_is_read}
+use Rattle.rv_reading.proofs.Lemmas.{reads-step, shard-alone-is-read, table-alone-is-read}
 use Rattle.rv_judge.specs.declared.phases.Machine.{Machine}
 use Rattle.rv_judge.specs.declared.phases.Phase.{Phase}
 use Rattle.rv_judge.specs.declared.phases.Phase.TheVariants.{Shards, Rows, Entries}
@@ -25,7 +25,7 @@ use Rattle.rv_judge.specs.Subject.{Subject, step_to}
 use Rattle.rv_judge.specs.Phases.{entries_in, phase_at, phase_of, stopped, sums_of}
 use Rattle.rv_judge.specs.Alone.{can_stand, read_alone, read_table, stated}
 use Rattle.rv_judge.proofs.StepFound.{held, room}
-use Rattle.rv_judge.proofs.ReadingOn.{is_stream}
+use Rattle.rv_judge.proofs.ReadingOn.{is-stream}
 
 -- where a reading stops, as a state
 abbrev state_at : Option Refusal → machine.Phase → List ℕ → State machine.Phase
@@ -34,12 +34,12 @@ state_at (Some r) p left = Err r
 
 module _ (lanes : Lanes) (s : Subject) (extent : machine.Extent) (old new : machine.Phase) (bytes left : List ℕ) (o : Option Refusal) (stops : step_to lanes s extent new left ≡ stopped o)
     (goes : (rest : List ℕ) → reads (step_to lanes s extent) new (left ++ rest) ≡ reads (step_to lanes s extent) old (bytes ++ rest)) where
-  stops_at : reads (step_to lanes s extent) old bytes ≡ state_at o new left
-  stops_at =
+  stops-at : reads (step_to lanes s extent) old bytes ≡ state_at o new left
+  stops-at =
       ap (λ (z : List ℕ). reads (step_to lanes s extent) old z) (sym (append-nil bytes))
       ∙ sym (goes [])
       ∙ ap (λ (z : List ℕ). reads (step_to lanes s extent) new z) (append-nil left)
-      ∙ reads-step (step_to lanes s extent) (is_stream lanes s extent) new left
+      ∙ reads-step (step_to lanes s extent) (is-stream lanes s extent) new left
       ∙ go o stops
     where
       go : (q : Option Refusal) → step_to lanes s extent new left ≡ stopped q → (step_to lanes s extent new left >>= onwards (reads (step_to lanes s extent)) (new, left)) ≡ state_at q new left
@@ -53,20 +53,20 @@ pub record BehindShards (m : Machine) (p : Place) (sums : machine.Sums) : Type 0
   pub place : m.place ≡ p
   pub all : sums_of m.all ≡ sums
 
-behind_shards : (m : Machine) (n i : ℕ) (p : Place) (sums : machine.Sums) → phase_of m ≡ ShardsOf n i p sums → BehindShards m p sums
-behind_shards m n i p sums e = go m.phase e
+behind-shards : (m : Machine) (n i : ℕ) (p : Place) (sums : machine.Sums) → phase_of m ≡ ShardsOf n i p sums → BehindShards m p sums
+behind-shards m n i p sums e = go m.phase e
   where
     go : (q : Phase) → phase_at q m.place m.shard m.all ≡ ShardsOf n i p sums → BehindShards m p sums
     go (Shards left next) f = record { place = cc; all = cc }
     go (Rows r) f = absurd cc
     go (Entries left next before) f = absurd cc
 
-bind_err : {A B : Type 0} (r : Result A Refusal) (f : A → B) (e : Refusal) → (r >>= λ x. Ok (f x)) ≡ Err e → r ≡ Err e
-bind_err (Ok x) f e is = absurd cc
-bind_err (Err d) f e is = let same : d ≡ e = cc in ap (λ (z : Refusal). Err z) same
+bind-err : {A B : Type 0} (r : Result A Refusal) (f : A → B) (e : Refusal) → (r >>= λ x. Ok (f x)) ≡ Err e → r ≡ Err e
+bind-err (Ok x) f e is = absurd cc
+bind-err (Err d) f e is = let same : d ≡ e = cc in ap (λ (z : Refusal). Err z) same
 
-ok_pair : (a c : machine.Phase) (b d : List ℕ) → state_at None a b ≡ state_at None c d → (a ≡ c) × (b ≡ d)
-ok_pair a c b d e =
+ok-pair : (a c : machine.Phase) (b d : List ℕ) → state_at None a b ≡ state_at None c d → (a ≡ c) × (b ≡ d)
+ok-pair a c b d e =
     let x : machine.Phase × List ℕ = (a, b) in
     let y : machine.Phase × List ℕ = (c, d) in
     let same : x ≡ y = cc in
@@ -84,26 +84,26 @@ module _ (lanes : Lanes) (s : Subject) (i : ℕ) (bytes : List ℕ) where
 
   module _ (m : Machine) (p : Place) (old : machine.Phase) (left : List ℕ) (o : Option Refusal) (stops : step_to lanes s ShardsAlone (phase_of m) left ≡ stopped o)
       (goes : (rest : List ℕ) → reads (step_to lanes s ShardsAlone) (phase_of m) (left ++ rest) ≡ reads (step_to lanes s ShardsAlone) old (bytes ++ rest)) (begun : old ≡ ShardsOf 1 i p no_sums) where
-    shard_stops : (read_shard true lanes s.elf s.input s.header s.output i p bytes >>= λ x. Ok (seen_of x)) ≡ state_at o (phase_of m) left
-    shard_stops =
-        sym (shard_alone_is_read true lanes s.elf s.input s.header s.output i p bytes)
+    shard-stops : (read_shard true lanes s.elf s.input s.header s.output i p bytes >>= λ x. Ok (seen_of x)) ≡ state_at o (phase_of m) left
+    shard-stops =
+        sym (shard-alone-is-read true lanes s.elf s.input s.header s.output i p bytes)
         ∙ ap (λ (q : machine.Phase). reads (step_to lanes s ShardsAlone) q bytes) (sym begun)
-        ∙ stops_at lanes s ShardsAlone old (phase_of m) bytes left o stops goes
+        ∙ stops-at lanes s ShardsAlone old (phase_of m) bytes left o stops goes
 
-    pub shard_refused : (r : Refusal) → o ≡ Some r → read_shard true lanes s.elf s.input s.header s.output i p bytes ≡ Err r
-    shard_refused r is = bind_err (read_shard true lanes s.elf s.input s.header s.output i p bytes) seen_of r (shard_stops ∙ ap (λ q. state_at q (phase_of m) left) is)
+    pub shard-refused : (r : Refusal) → o ≡ Some r → read_shard true lanes s.elf s.input s.header s.output i p bytes ≡ Err r
+    shard-refused r is = bind-err (read_shard true lanes s.elf s.input s.header s.output i p bytes) seen_of r (shard-stops ∙ ap (λ q. state_at q (phase_of m) left) is)
 
     pub record ShardRead (x : Reading Shard) : Type 0 where
       pub is : read_shard true lanes s.elf s.input s.header s.output i p bytes ≡ Ok x
       pub behind : BehindShards m x.place (event_sums true lanes (events (i * s.header.size) x.part.rows))
       pub rest : x.left ≡ left
 
-    pub shard_read : o ≡ None → (x : Reading Shard) × ShardRead x
-    shard_read is =
-        let a = bind_ok (read_shard true lanes s.elf s.input s.header s.output i p bytes) (λ x. Ok (seen_of x)) (phase_of m, left) (shard_stops ∙ ap (λ q. state_at q (phase_of m) left) is) in
+    pub shard-read : o ≡ None → (x : Reading Shard) × ShardRead x
+    shard-read is =
+        let a = bind-ok (read_shard true lanes s.elf s.input s.header s.output i p bytes) (λ x. Ok (seen_of x)) (phase_of m, left) (shard-stops ∙ ap (λ q. state_at q (phase_of m) left) is) in
         let x = a.0 in
-        let parts = ok_pair (seen_of x).0 (phase_of m) x.left left a.2 in
-        (x, record { is = a.1; behind = behind_shards m 0 (i + 1) x.place (event_sums true lanes (events (i * s.header.size) x.part.rows)) (sym parts.0); rest = parts.1 })
+        let parts = ok-pair (seen_of x).0 (phase_of m) x.left left a.2 in
+        (x, record { is = a.1; behind = behind-shards m 0 (i + 1) x.place (event_sums true lanes (events (i * s.header.size) x.part.rows)) (sym parts.0); rest = parts.1 })
 
   -- a shard that is read has the head that its bytes spell
   made : Reading (List Row) → Reading Shard
@@ -121,16 +121,16 @@ module _ (lanes : Lanes) (s : Subject) (i : ℕ) (bytes : List ℕ) where
       ∷ (21, when_complete true lanes s.elf s.input (bytes_eq (digest_of rows.left) (digest lanes (map tuple_read es)) && bytes_eq (digest_of (drop 128 rows.left)) (digest lanes (map tuple_written es))))
       ∷ []
 
-  pub head_read : (p : Place) (x : Reading Shard) → read_shard true lanes s.elf s.input s.header s.output i p bytes ≡ Ok x → x.part.head ≡ head_of bytes
+  pub head-read : (p : Place) (x : Reading Shard) → read_shard true lanes s.elf s.input s.header s.output i p bytes ≡ Ok x → x.part.head ≡ head_of bytes
   unfolding read_shard made
-  head_read p x e =
+  head-read p x e =
       let n = shard_rows s.header.size s.header.steps i in
       let cs : List Check = (1, nat_le 32 (length bytes)) ∷ (9, (head_of bytes).index == i && (head_of bytes).rows == n && when_complete true lanes s.elf s.input (same_place (head_of bytes) p)) ∷ [] in
       let from : List ℕ → Result (Reading (List Row)) Refusal = read_rows true lanes s.elf s.input n s.header s.output i 0 p in
       let end : Reading (List Row) → Result (Reading Shard) Refusal = λ rows. unless_broken i n (end_rules rows) (made rows) in
-      let a = bind_ok (unless_broken i 0 cs (drop 32 bytes)) (λ z. from z >>= end) x e in
-      let b = bind_ok (from a.0) end x a.2 in
-      ap (λ (z : Reading Shard). z.part.head) (sym (unless_ok i n (end_rules b.0) (made b.0) x b.2).1)
+      let a = bind-ok (unless_broken i 0 cs (drop 32 bytes)) (λ z. from z >>= end) x e in
+      let b = bind-ok (from a.0) end x a.2 in
+      ap (λ (z : Reading Shard). z.part.head) (sym (unless-ok i n (end_rules b.0) (made b.0) x b.2).1)
 
 -- ---- the table
 
@@ -138,8 +138,8 @@ pub record BehindTable (m : Machine) (n : ℕ) (sums : machine.Sums) : Type 0 wh
   pub entries : entries_in m.phase ≡ n
   pub all : sums_of m.all ≡ sums
 
-behind_table : (m : Machine) (n : ℕ) (before : Option ℕ) (p : Place) (sums : machine.Sums) → phase_of m ≡ EntriesOf 0 n before p sums → BehindTable m n sums
-behind_table m n before p sums e = go m.phase refl e
+behind-table : (m : Machine) (n : ℕ) (before : Option ℕ) (p : Place) (sums : machine.Sums) → phase_of m ≡ EntriesOf 0 n before p sums → BehindTable m n sums
+behind-table m n before p sums e = go m.phase refl e
   where
     go : (q : Phase) → m.phase ≡ q → phase_at q m.place m.shard m.all ≡ EntriesOf 0 n before p sums → BehindTable m n sums
     go (Shards left next) at f = absurd cc
@@ -156,24 +156,24 @@ module _ (lanes : Lanes) (s : Subject) (bytes : List ℕ) where
 
   module _ (m : Machine) (i : ℕ) (p : Place) (old : machine.Phase) (left : List ℕ) (o : Option Refusal) (stops : step_to lanes s TableAlone (phase_of m) left ≡ stopped o)
       (goes : (rest : List ℕ) → reads (step_to lanes s TableAlone) (phase_of m) (left ++ rest) ≡ reads (step_to lanes s TableAlone) old (bytes ++ rest)) (begun : old ≡ ShardsOf 0 i p no_sums) where
-    table_stops : (read_table s.header bytes >>= λ x. Ok (seen_table p x)) ≡ state_at o (phase_of m) left
-    table_stops =
+    table-stops : (read_table s.header bytes >>= λ x. Ok (seen_table p x)) ≡ state_at o (phase_of m) left
+    table-stops =
         sym (joined (unless_broken s.header.shards 0 ((1, nat_le 4 (length bytes)) ∷ []) (drop 4 bytes)) (read_entries (u32_at bytes 0) s.header 0 None) (seen_table p))
-        ∙ sym (table_alone_is_read true lanes s.elf s.input s.header s.output i p bytes)
+        ∙ sym (table-alone-is-read true lanes s.elf s.input s.header s.output i p bytes)
         ∙ ap (λ (q : machine.Phase). reads (step_to lanes s TableAlone) q bytes) (sym begun)
-        ∙ stops_at lanes s TableAlone old (phase_of m) bytes left o stops goes
+        ∙ stops-at lanes s TableAlone old (phase_of m) bytes left o stops goes
 
-    pub table_refused : (r : Refusal) → o ≡ Some r → read_table s.header bytes ≡ Err r
-    table_refused r is = bind_err (read_table s.header bytes) (seen_table p) r (table_stops ∙ ap (λ q. state_at q (phase_of m) left) is)
+    pub table-refused : (r : Refusal) → o ≡ Some r → read_table s.header bytes ≡ Err r
+    table-refused r is = bind-err (read_table s.header bytes) (seen_table p) r (table-stops ∙ ap (λ q. state_at q (phase_of m) left) is)
 
     pub record TableRead (x : List TableEntry × List ℕ) : Type 0 where
       pub is : read_table s.header bytes ≡ Ok x
       pub behind : BehindTable m (u32_at bytes 0) (tuple_sums true lanes (map tuple_last x.0) (map (first_tuple s.elf s.header) x.0))
       pub rest : x.1 ≡ left
 
-    pub table_read : o ≡ None → (x : List TableEntry × List ℕ) × TableRead x
-    table_read is =
-        let a = bind_ok (read_table s.header bytes) (λ x. Ok (seen_table p x)) (phase_of m, left) (table_stops ∙ ap (λ q. state_at q (phase_of m) left) is) in
+    pub table-read : o ≡ None → (x : List TableEntry × List ℕ) × TableRead x
+    table-read is =
+        let a = bind-ok (read_table s.header bytes) (λ x. Ok (seen_table p x)) (phase_of m, left) (table-stops ∙ ap (λ q. state_at q (phase_of m) left) is) in
         let x = a.0 in
-        let parts = ok_pair (seen_table p x).0 (phase_of m) x.1 left a.2 in
-        (x, record { is = a.1; behind = behind_table m (u32_at bytes 0) (last_cell None x.0) p (tuple_sums true lanes (map tuple_last x.0) (map (first_tuple s.elf s.header) x.0)) (sym parts.0); rest = parts.1 })
+        let parts = ok-pair (seen_table p x).0 (phase_of m) x.1 left a.2 in
+        (x, record { is = a.1; behind = behind-table m (u32_at bytes 0) (last_cell None x.0) p (tuple_sums true lanes (map tuple_last x.0) (map (first_tuple s.elf s.header) x.0)) (sym parts.0); rest = parts.1 })

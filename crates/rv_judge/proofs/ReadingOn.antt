@@ -4,36 +4,36 @@ use Rattle.std.proofs.lemmas.List.{length-drop, take_all, drop-drop}
 use Rattle.rv_spec.specs.Digest.{Lanes}
 use Rattle.rv_reading.specs.Stream.{IsStream, Found, reads}
 use Rattle.rv_reading.specs.Machine as machine
-use Rattle.rv_reading.proofs.Lemmas.{extents_are_streams, reads-goes}
+use Rattle.rv_reading.proofs.Lemmas.{extents-are-streams, reads-goes}
 use Rattle.rv_judge.specs.declared.phases.Machine.{Machine}
 use Rattle.rv_judge.specs.declared.phases.Phase.{Phase}
 use Rattle.rv_judge.specs.Subject.{Subject, step, step_to}
 use Rattle.rv_judge.specs.Phases.{Went, phase_at, phase_of}
 
-pub went_at : (lanes : Lanes) (s : Subject) (m new : Machine) (q : Phase) (bytes : List ℕ) (n : ℕ) → m.phase ≡ q → Went lanes s (phase_at q m.place m.shard m.all) new bytes n → Went lanes s (phase_of m) new bytes n
-went_at lanes s m new q bytes n is w = subst (λ (z : Phase). Went lanes s (phase_at z m.place m.shard m.all) new bytes n) (sym is) w
+pub went-at : (lanes : Lanes) (s : Subject) (m new : Machine) (q : Phase) (bytes : List ℕ) (n : ℕ) → m.phase ≡ q → Went lanes s (phase_at q m.place m.shard m.all) new bytes n → Went lanes s (phase_of m) new bytes n
+went-at lanes s m new q bytes n is w = subst (λ (z : Phase). Went lanes s (phase_at z m.place m.shard m.all) new bytes n) (sym is) w
 
 module _ (lanes : Lanes) (s : Subject) (extent : machine.Extent) where
-  pub is_stream : IsStream machine.Phase (step_to lanes s extent)
-  is_stream = extents_are_streams true lanes s.elf s.input s.header s.output extent
+  pub is-stream : IsStream machine.Phase (step_to lanes s extent)
+  is-stream = extents-are-streams true lanes s.elf s.input s.header s.output extent
 
-  pub not_behind : (p : machine.Phase) (xs : List ℕ) → machine.is_behind extent p ≡ false → step_to lanes s extent p xs ≡ step lanes s p xs
-  not_behind p xs e = ap (λ b. cond {A = Found machine.Phase} b (Ok None) (step lanes s p xs)) e
+  pub not-behind : (p : machine.Phase) (xs : List ℕ) → machine.is_behind extent p ≡ false → step_to lanes s extent p xs ≡ step lanes s p xs
+  not-behind p xs e = ap (λ b. cond {A = Found machine.Phase} b (Ok None) (step lanes s p xs)) e
 
-  pub is_behind : (p : machine.Phase) (xs : List ℕ) → machine.is_behind extent p ≡ true → step_to lanes s extent p xs ≡ Ok None
-  is_behind p xs e = ap (λ b. cond {A = Found machine.Phase} b (Ok None) (step lanes s p xs)) e
+  pub is-behind : (p : machine.Phase) (xs : List ℕ) → machine.is_behind extent p ≡ true → step_to lanes s extent p xs ≡ Ok None
+  is-behind p xs e = ap (λ b. cond {A = Found machine.Phase} b (Ok None) (step lanes s p xs)) e
 
   -- where a step goes on, so does the reading
-  pub goes_on : (p q : machine.Phase) (xs left rest : List ℕ) → machine.is_behind extent p ≡ false → step lanes s p xs ≡ Ok (Some (q, left)) → reads (step_to lanes s extent) q (left ++ rest) ≡ reads (step_to lanes s extent) p (xs ++ rest)
-  goes_on p q xs left rest e found = sym (reads-goes (step_to lanes s extent) is_stream p q xs left rest (not_behind p xs e ∙ found))
+  pub goes-on : (p q : machine.Phase) (xs left rest : List ℕ) → machine.is_behind extent p ≡ false → step lanes s p xs ≡ Ok (Some (q, left)) → reads (step_to lanes s extent) q (left ++ rest) ≡ reads (step_to lanes s extent) p (xs ++ rest)
+  goes-on p q xs left rest e found = sym (reads-goes (step_to lanes s extent) is-stream p q xs left rest (not-behind p xs e ∙ found))
 
 -- the bytes behind the first n of those that are left, as the code has them
 pub behind : (n : ℕ) (xs : List ℕ) → take (length xs - n) (drop n xs) ≡ drop n xs
 behind n xs = take_all (length xs - n) (drop n xs) (omega (arith, length-drop n xs))
 
 -- they are the last of all
-pub last_of_all : (n : ℕ) (xs all : List ℕ) → n ≤ length xs → length xs ≤ length all → xs ≡ drop (length all - length xs) all → drop n xs ≡ drop (length all - length (drop n xs)) all
-last_of_all n xs all le within is =
+pub last-of-all : (n : ℕ) (xs all : List ℕ) → n ≤ length xs → length xs ≤ length all → xs ≡ drop (length all - length xs) all → drop n xs ≡ drop (length all - length (drop n xs)) all
+last-of-all n xs all le within is =
     ap (λ (z : List ℕ). drop n z) is
     ∙ drop-drop n (length all - length xs) all
     ∙ ap (λ k. drop k all) (let e : length all - length xs + n ≡ length all - length (drop n xs) = omega (arith, le, within, length-drop n xs) in e)
@@ -44,18 +44,18 @@ module _ (lanes : Lanes) (s : Subject) (extent : machine.Extent) (m new first : 
 
   pub smaller : length rest_of < length left
   smaller =
-      let less = (is_stream lanes s extent).takes (phase_of m) (phase_of new) left (drop n left) (not_behind lanes s extent (phase_of m) left reading ∙ w.found) in
+      let less = (is-stream lanes s extent).takes (phase_of m) (phase_of new) left (drop n left) (not-behind lanes s extent (phase_of m) left reading ∙ w.found) in
       subst (λ (zs : List ℕ). length zs < length left) (sym (behind n left)) less
 
   pub goes : ((rest : List ℕ) → reads (step_to lanes s extent) (phase_of m) (left ++ rest) ≡ reads (step_to lanes s extent) (phase_of first) (all ++ rest))
       → (rest : List ℕ) → reads (step_to lanes s extent) (phase_of new) (rest_of ++ rest) ≡ reads (step_to lanes s extent) (phase_of first) (all ++ rest)
   goes before rest =
       ap (λ (zs : List ℕ). reads (step_to lanes s extent) (phase_of new) (zs ++ rest)) (behind n left)
-      ∙ goes_on lanes s extent (phase_of m) (phase_of new) left (drop n left) rest reading w.found
+      ∙ goes-on lanes s extent (phase_of m) (phase_of new) left (drop n left) rest reading w.found
       ∙ before rest
 
-  pub is_within : length left ≤ length all → length rest_of ≤ length all
-  is_within le = subst (λ (zs : List ℕ). length zs ≤ length all) (sym (behind n left)) (omega (arith, le, length-drop n left))
+  pub is-within : length left ≤ length all → length rest_of ≤ length all
+  is-within le = subst (λ (zs : List ℕ). length zs ≤ length all) (sym (behind n left)) (omega (arith, le, length-drop n left))
 
-  pub is_last : length left ≤ length all → left ≡ drop (length all - length left) all → rest_of ≡ drop (length all - length rest_of) all
-  is_last le is = subst (λ (zs : List ℕ). zs ≡ drop (length all - length zs) all) (sym (behind n left)) (last_of_all n left all w.taken le is)
+  pub is-last : length left ≤ length all → left ≡ drop (length all - length left) all → rest_of ≡ drop (length all - length rest_of) all
+  is-last le is = subst (λ (zs : List ℕ). zs ≡ drop (length all - length zs) all) (sym (behind n left)) (last-of-all n left all w.taken le is)

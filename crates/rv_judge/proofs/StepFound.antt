@@ -28,9 +28,9 @@ held rule b cs e = ap (λ z. cond z (first_broken cs) (Some rule)) e
 pub broke : (rule : ℕ) (b : Bool) (cs : List Check) → b ≡ false → first_broken ((rule, b) ∷ cs) ≡ Some rule
 broke rule b cs e = ap (λ z. cond z (first_broken cs) (Some rule)) e
 
-pub not_not : (b : Bool) → not (not b) ≡ b
-not_not true = refl
-not_not false = refl
+pub not-not : (b : Bool) → not (not b) ≡ b
+not-not true = refl
+not-not false = refl
 
 few : (n k : ℕ) → n < k → nat_le k n ≡ false
 few n k lt = go (nat_le k n) refl
@@ -46,17 +46,17 @@ pub room : (n : ℕ) (xs : List ℕ) (cs : List Check) → n ≤ length xs → f
 room n xs cs le = held 1 (nat_le n (length xs)) cs (le-leb n (length xs) le)
 
 -- checks in front of others
-pub front_held : (cs bs : List Check) → first_broken cs ≡ None → first_broken (cs ++ bs) ≡ first_broken bs
-front_held [] bs e = refl
-front_held (a ∷ cs) bs e = go a.1 refl e (front_held cs bs)
+pub front-held : (cs bs : List Check) → first_broken cs ≡ None → first_broken (cs ++ bs) ≡ first_broken bs
+front-held [] bs e = refl
+front-held (a ∷ cs) bs e = go a.1 refl e (front-held cs bs)
   where
     go : (b : Bool) → a.1 ≡ b → cond b (first_broken cs) (Some a.0) ≡ None → (first_broken cs ≡ None → first_broken (cs ++ bs) ≡ first_broken bs) → first_broken (a ∷ cs ++ bs) ≡ first_broken bs
     go true f g later = held a.0 a.1 (cs ++ bs) f ∙ later g
     go false f g later = absurd cc
 
-pub front_broke : (cs bs : List Check) (rule : ℕ) → first_broken cs ≡ Some rule → first_broken (cs ++ bs) ≡ Some rule
-front_broke [] bs rule e = absurd cc
-front_broke (a ∷ cs) bs rule e = go a.1 refl e (front_broke cs bs rule)
+pub front-broke : (cs bs : List Check) (rule : ℕ) → first_broken cs ≡ Some rule → first_broken (cs ++ bs) ≡ Some rule
+front-broke [] bs rule e = absurd cc
+front-broke (a ∷ cs) bs rule e = go a.1 refl e (front-broke cs bs rule)
   where
     go : (b : Bool) → a.1 ≡ b → cond b (first_broken cs) (Some a.0) ≡ Some rule → (first_broken cs ≡ Some rule → first_broken (cs ++ bs) ≡ Some rule) → first_broken (a ∷ cs ++ bs) ≡ Some rule
     go true f g later = held a.0 a.1 (cs ++ bs) f ∙ later g
@@ -67,8 +67,8 @@ row_length-row_of : (bytes : List ℕ) → row_length (row_of bytes) ≡ row_siz
 row_length-row_of bytes = ap (λ n. 9 + 21 * n) (length-map-range_with_len (λ j. access_of (drop (9 + 21 * j) bytes)) 0 (get_or bytes 8 0))
 
 -- the rule that an entry breaks, by what was read of header and entry
-pub entry_rule : (before : Option ℕ) (h k : Header) (e f : TableEntry) (o : Option ℕ) → h ≡ k → e ≡ f → first_broken (entry_checks h.version before e) ≡ o → first_broken (entry_checks k.version before f) ≡ o
-entry_rule before h k e f o same entry is = ap (λ (z : Header). first_broken (entry_checks z.version before f)) (sym same) ∙ ap (λ (z : TableEntry). first_broken (entry_checks h.version before z)) (sym entry) ∙ is
+pub entry-rule : (before : Option ℕ) (h k : Header) (e f : TableEntry) (o : Option ℕ) → h ≡ k → e ≡ f → first_broken (entry_checks h.version before e) ≡ o → first_broken (entry_checks k.version before f) ≡ o
+entry-rule before h k e f o same entry is = ap (λ (z : Header). first_broken (entry_checks z.version before f)) (sym same) ∙ ap (λ (z : TableEntry). first_broken (entry_checks h.version before z)) (sym entry) ∙ is
 
 module _ (lanes : Lanes) (s : Subject) where
   abbrev at : ℕ → ℕ → ℕ → Refusal
@@ -76,13 +76,13 @@ module _ (lanes : Lanes) (s : Subject) where
 
   -- ---- the number of the table's entries
 
-  pub count_short : (next : ℕ) (p : Place) (all : Sums) (bytes : List ℕ) → length bytes < 4 → step lanes s (Shards 0 next p all) bytes ≡ Err (at s.header.shards 0 1)
+  pub count-short : (next : ℕ) (p : Place) (all : Sums) (bytes : List ℕ) → length bytes < 4 → step lanes s (Shards 0 next p all) bytes ≡ Err (at s.header.shards 0 1)
   unfolding machine_step
-  count_short next p all bytes lt = ap (λ o. refused_by s.header.shards 0 o (Some (Entries (u32_at bytes 0) 0 None p all, drop 4 bytes))) (short 4 bytes [] lt)
+  count-short next p all bytes lt = ap (λ o. refused_by s.header.shards 0 o (Some (Entries (u32_at bytes 0) 0 None p all, drop 4 bytes))) (short 4 bytes [] lt)
 
-  pub count_went : (next : ℕ) (p : Place) (all : Sums) (bytes : List ℕ) → 4 ≤ length bytes → step lanes s (Shards 0 next p all) bytes ≡ Ok (Some (Entries (u32_at bytes 0) 0 None p all, drop 4 bytes))
+  pub count-went : (next : ℕ) (p : Place) (all : Sums) (bytes : List ℕ) → 4 ≤ length bytes → step lanes s (Shards 0 next p all) bytes ≡ Ok (Some (Entries (u32_at bytes 0) 0 None p all, drop 4 bytes))
   unfolding machine_step
-  count_went next p all bytes le = ap (λ o. refused_by s.header.shards 0 o (Some (Entries (u32_at bytes 0) 0 None p all, drop 4 bytes))) (room 4 bytes [] le)
+  count-went next p all bytes le = ap (λ o. refused_by s.header.shards 0 o (Some (Entries (u32_at bytes 0) 0 None p all, drop 4 bytes))) (room 4 bytes [] le)
 
   -- ---- the head of a shard
 
@@ -95,17 +95,17 @@ module _ (lanes : Lanes) (s : Subject) where
   abbrev behind_head : ℕ → ℕ → Place → Sums → List ℕ → ShardHead → ℕ → Option (Phase × List ℕ)
   behind_head n i p all bytes head rows = Some (Rows rows 0 n i (begin_shard head) p all, drop 32 bytes)
 
-  pub head_short : (left i : ℕ) (p : Place) (all : Sums) (bytes : List ℕ) → 0 < left → length bytes < 32 → step lanes s (Shards left i p all) bytes ≡ Err (at i 0 1)
+  pub head-short : (left i : ℕ) (p : Place) (all : Sums) (bytes : List ℕ) → 0 < left → length bytes < 32 → step lanes s (Shards left i p all) bytes ≡ Err (at i 0 1)
   unfolding machine_step
-  head_short zero i p all bytes some lt = absurd (omega (arith, some))
-  head_short (suc n) i p all bytes some lt =
+  head-short zero i p all bytes some lt = absurd (omega (arith, some))
+  head-short (suc n) i p all bytes some lt =
       ap (λ o. refused_by i 0 o (behind_head n i p all bytes (head_of bytes) (rows_in i))) (short 32 bytes ((9, is_head_of (head_of bytes) i (rows_in i) p) ∷ []) lt)
 
   module _ (left i : ℕ) (p : Place) (all : Sums) (bytes : List ℕ) (head : ShardHead) (rows : ℕ) (some : 0 < left) (le : 32 ≤ length bytes) (is : head ≡ head_of bytes) (many : rows ≡ rows_in i) where
-    shard_answered : (n : ℕ) → 0 < n → (o : Option ℕ) → first_broken ((9, is_head_of head i rows p) ∷ []) ≡ o → step lanes s (Shards n i p all) bytes ≡ refused_by i 0 o (behind_head (n - 1) i p all bytes head rows)
+    shard-answered : (n : ℕ) → 0 < n → (o : Option ℕ) → first_broken ((9, is_head_of head i rows p) ∷ []) ≡ o → step lanes s (Shards n i p all) bytes ≡ refused_by i 0 o (behind_head (n - 1) i p all bytes head rows)
     unfolding machine_step
-    shard_answered zero more o e = absurd (omega (arith, more))
-    shard_answered (suc n) more o e =
+    shard-answered zero more o e = absurd (omega (arith, more))
+    shard-answered (suc n) more o e =
         ap (λ z. refused_by i 0 z (behind_head n i p all bytes (head_of bytes) (rows_in i))) (room 32 bytes ((9, is_head_of (head_of bytes) i (rows_in i) p) ∷ []) le)
         ∙ (λ t. refused_by i 0 (first_broken ((9, is_head_of (back is t) i (back many t) p) ∷ [])) (behind_head n i p all bytes (back is t) (back many t)))
         ∙ (λ t. refused_by i 0 (e t) (behind_head (less t) i p all bytes head rows))
@@ -116,15 +116,15 @@ module _ (lanes : Lanes) (s : Subject) where
         less : n ≡ suc n - 1
         less = omega arith
 
-    pub head_other : is_head_of head i rows p ≡ false → step lanes s (Shards left i p all) bytes ≡ Err (at i 0 9)
-    head_other isnt = shard_answered left some (Some 9) (broke 9 (is_head_of head i rows p) [] isnt)
+    pub head-other : is_head_of head i rows p ≡ false → step lanes s (Shards left i p all) bytes ≡ Err (at i 0 9)
+    head-other isnt = shard-answered left some (Some 9) (broke 9 (is_head_of head i rows p) [] isnt)
 
-    pub head_went : is_head_of head i rows p ≡ true → step lanes s (Shards left i p all) bytes ≡ Ok (behind_head (left - 1) i p all bytes head rows)
-    head_went sure = shard_answered left some None (held 9 (is_head_of head i rows p) [] sure)
+    pub head-went : is_head_of head i rows p ≡ true → step lanes s (Shards left i p all) bytes ≡ Ok (behind_head (left - 1) i p all bytes head rows)
+    head-went sure = shard-answered left some None (held 9 (is_head_of head i rows p) [] sure)
 
   -- a shard has no more rows than the size
-  pub rows_fit : (i : ℕ) → rows_in i ≤ s.header.size
-  rows_fit i = omega arith
+  pub rows-fit : (i : ℕ) → rows_in i ≤ s.header.size
+  rows-fit i = omega arith
 
   -- ---- the digests of a shard
 
@@ -144,24 +144,24 @@ module _ (lanes : Lanes) (s : Subject) where
     abbrev here : Phase
     here = Rows left r m i x p all
 
-    digests_answered : (o : Option ℕ) → first_broken ((20, x.bytes == x.head.bytes) ∷ two) ≡ o → step lanes s here bytes ≡ refused_by i r o (behind_shard m i x p all bytes)
+    digests-answered : (o : Option ℕ) → first_broken ((20, x.bytes == x.head.bytes) ∷ two) ≡ o → step lanes s here bytes ≡ refused_by i r o (behind_shard m i x p all bytes)
     unfolding machine_step
-    digests_answered o e = none_left ∙ ap (λ z. refused_by i r z (behind_shard m i x p all bytes)) e
+    digests-answered o e = none-left ∙ ap (λ z. refused_by i r z (behind_shard m i x p all bytes)) e
       where
-        none_left : step lanes s here bytes ≡ step lanes s (Rows 0 r m i x p all) bytes
-        none_left = ap (λ n. step lanes s (Rows n r m i x p all) bytes) none
+        none-left : step lanes s here bytes ≡ step lanes s (Rows 0 r m i x p all) bytes
+        none-left = ap (λ n. step lanes s (Rows n r m i x p all) bytes) none
 
-    pub digests_other : (x.bytes == x.head.bytes) ≡ false → step lanes s here bytes ≡ Err (at i r 20)
-    digests_other isnt = digests_answered (Some 20) (broke 20 (x.bytes == x.head.bytes) two isnt)
+    pub digests-other : (x.bytes == x.head.bytes) ≡ false → step lanes s here bytes ≡ Err (at i r 20)
+    digests-other isnt = digests-answered (Some 20) (broke 20 (x.bytes == x.head.bytes) two isnt)
 
-    pub digests_short : (x.bytes == x.head.bytes) ≡ true → length bytes < 256 → step lanes s here bytes ≡ Err (at i r 1)
-    digests_short full lt = digests_answered (Some 1) (held 20 (x.bytes == x.head.bytes) two full ∙ short 256 bytes ((21, good) ∷ []) lt)
+    pub digests-short : (x.bytes == x.head.bytes) ≡ true → length bytes < 256 → step lanes s here bytes ≡ Err (at i r 1)
+    digests-short full lt = digests-answered (Some 1) (held 20 (x.bytes == x.head.bytes) two full ∙ short 256 bytes ((21, good) ∷ []) lt)
 
-    pub digests_false : (x.bytes == x.head.bytes) ≡ true → 256 ≤ length bytes → good ≡ false → step lanes s here bytes ≡ Err (at i r 21)
-    digests_false full le isnt = digests_answered (Some 21) (held 20 (x.bytes == x.head.bytes) two full ∙ room 256 bytes ((21, good) ∷ []) le ∙ broke 21 good [] isnt)
+    pub digests-false : (x.bytes == x.head.bytes) ≡ true → 256 ≤ length bytes → good ≡ false → step lanes s here bytes ≡ Err (at i r 21)
+    digests-false full le isnt = digests-answered (Some 21) (held 20 (x.bytes == x.head.bytes) two full ∙ room 256 bytes ((21, good) ∷ []) le ∙ broke 21 good [] isnt)
 
-    pub digests_went : (x.bytes == x.head.bytes) ≡ true → 256 ≤ length bytes → good ≡ true → step lanes s here bytes ≡ Ok (behind_shard m i x p all bytes)
-    digests_went full le sure = digests_answered None (held 20 (x.bytes == x.head.bytes) two full ∙ room 256 bytes ((21, good) ∷ []) le ∙ held 21 good [] sure)
+    pub digests-went : (x.bytes == x.head.bytes) ≡ true → 256 ≤ length bytes → good ≡ true → step lanes s here bytes ≡ Ok (behind_shard m i x p all bytes)
+    digests-went full le sure = digests-answered None (held 20 (x.bytes == x.head.bytes) two full ∙ room 256 bytes ((21, good) ∷ []) le ∙ held 21 good [] sure)
 
   -- ---- a row
 
@@ -172,39 +172,39 @@ module _ (lanes : Lanes) (s : Subject) where
   behind_row n r m i x p all row bytes k = Some (Rows n (r + 1) m i (with_row true lanes x (i * s.header.size + r) row) (place_after s.header.version row p s.input) all, drop k bytes)
 
   module _ (r m i : ℕ) (x : Inside) (p : Place) (all : Sums) (bytes : List ℕ) where
-    row_answered : (left : ℕ) → 0 < left → (o : Option ℕ) → first_broken (row_form bytes ++ rules_of i r p (row_of bytes)) ≡ o
+    row-answered : (left : ℕ) → 0 < left → (o : Option ℕ) → first_broken (row_form bytes ++ rules_of i r p (row_of bytes)) ≡ o
         → step lanes s (Rows left r m i x p all) bytes ≡ refused_by i r o (behind_row (left - 1) r m i x p all (row_of bytes) bytes (row_size bytes))
     unfolding machine_step
-    row_answered zero some o e = absurd (omega (arith, some))
-    row_answered (suc n) some o e =
+    row-answered zero some o e = absurd (omega (arith, some))
+    row-answered (suc n) some o e =
         ap (λ z. refused_by i r z (behind_row n r m i x p all (row_of bytes) bytes (row_size bytes))) e
         ∙ ap (λ k. refused_by i r o (behind_row k r m i x p all (row_of bytes) bytes (row_size bytes))) (let f : n ≡ suc n - 1 = omega arith in f)
 
-    pub row_formless : (left rule : ℕ) → 0 < left → first_broken (row_form bytes) ≡ Some rule → step lanes s (Rows left r m i x p all) bytes ≡ Err (at i r rule)
-    row_formless left rule some e = row_answered left some (Some rule) (front_broke (row_form bytes) (rules_of i r p (row_of bytes)) rule e)
+    pub row-formless : (left rule : ℕ) → 0 < left → first_broken (row_form bytes) ≡ Some rule → step lanes s (Rows left r m i x p all) bytes ≡ Err (at i r rule)
+    row-formless left rule some e = row-answered left some (Some rule) (front-broke (row_form bytes) (rules_of i r p (row_of bytes)) rule e)
 
-    pub row_false : (left rule : ℕ) (row : Row) → 0 < left → first_broken (row_form bytes) ≡ None → row ≡ row_of bytes → first_broken (rules_of i r p row) ≡ Some rule
+    pub row-false : (left rule : ℕ) (row : Row) → 0 < left → first_broken (row_form bytes) ≡ None → row ≡ row_of bytes → first_broken (rules_of i r p row) ≡ Some rule
         → step lanes s (Rows left r m i x p all) bytes ≡ Err (at i r rule)
-    row_false left rule row some form is e =
-        row_answered left some (Some rule) (front_held (row_form bytes) (rules_of i r p (row_of bytes)) form ∙ ap (λ (z : Row). first_broken (rules_of i r p z)) (sym is) ∙ e)
+    row-false left rule row some form is e =
+        row-answered left some (Some rule) (front-held (row_form bytes) (rules_of i r p (row_of bytes)) form ∙ ap (λ (z : Row). first_broken (rules_of i r p z)) (sym is) ∙ e)
 
-    pub row_went : (left k : ℕ) (row : Row) → 0 < left → first_broken (row_form bytes) ≡ None → row ≡ row_of bytes → k ≡ row_size bytes → first_broken (rules_of i r p row) ≡ None
+    pub row-went : (left k : ℕ) (row : Row) → 0 < left → first_broken (row_form bytes) ≡ None → row ≡ row_of bytes → k ≡ row_size bytes → first_broken (rules_of i r p row) ≡ None
         → step lanes s (Rows left r m i x p all) bytes ≡ Ok (behind_row (left - 1) r m i x p all row bytes k)
-    row_went left k row some form is size e =
-        row_answered left some None (front_held (row_form bytes) (rules_of i r p (row_of bytes)) form ∙ ap (λ (z : Row). first_broken (rules_of i r p z)) (sym is) ∙ e)
+    row-went left k row some form is size e =
+        row-answered left some None (front-held (row_form bytes) (rules_of i r p (row_of bytes)) form ∙ ap (λ (z : Row). first_broken (rules_of i r p z)) (sym is) ∙ e)
         ∙ ap (λ (z : Row). Ok (behind_row (left - 1) r m i x p all z bytes (row_size bytes))) (sym is) ∙ ap (λ z. Ok (behind_row (left - 1) r m i x p all row bytes z)) (sym size)
 
     -- as the code has it: by the number of the step, the place behind the row, and the sums with its tuples
-    pub row_reached : (left k number : ℕ) (row : Row) (after : Place) (sums : Sums) → 0 < left → first_broken (row_form bytes) ≡ None → row ≡ row_of bytes → k ≡ row_size bytes → number ≡ i * s.header.size + r
+    pub row-reached : (left k number : ℕ) (row : Row) (after : Place) (sums : Sums) → 0 < left → first_broken (row_form bytes) ≡ None → row ≡ row_of bytes → k ≡ row_size bytes → number ≡ i * s.header.size + r
         → row_rule s.header.version row number p (last_of s.header number) s.input s.output ≡ None → after ≡ place_after s.header.version row p s.input
         → sums ≡ with_events true lanes x.sums (map (event number) row.accesses)
         → step lanes s (Rows left r m i x p all) bytes ≡ Ok (Some (Rows (left - 1) (r + 1) m i (record { head = x.head; bytes = x.bytes + k; sums = sums }) after all, drop k bytes))
-    row_reached left k number row after sums some form is size step_is good place events =
+    row-reached left k number row after sums some form is size step_is good place events =
         let rule = ap (λ n. row_rule s.header.version row n p (last_of s.header n) s.input s.output) (sym step_is) ∙ good in
         let long : row_length row ≡ k = ap row_length is ∙ row_length-row_of bytes ∙ sym size in
         let added : with_events true lanes x.sums (map (event (i * s.header.size + r)) row.accesses) ≡ sums = ap (λ n. with_events true lanes x.sums (map (event n) row.accesses)) (sym step_is) ∙ sym events in
         let reached : Place = place_after s.header.version row p s.input in
-        row_went left k row some form is size rule
+        row-went left k row some form is size rule
         ∙ ap (λ n. Ok (Some (Rows (left - 1) (r + 1) m i (record { head = x.head; bytes = x.bytes + n; sums = with_events true lanes x.sums (map (event (i * s.header.size + r)) row.accesses) }) reached all, drop k bytes))) long
         ∙ ap (λ (z : Sums). Ok (Some (Rows (left - 1) (r + 1) m i (record { head = x.head; bytes = x.bytes + k; sums = z }) reached all, drop k bytes))) added
         ∙ ap (λ (z : Place). Ok (Some (Rows (left - 1) (r + 1) m i (record { head = x.head; bytes = x.bytes + k; sums = sums }) z all, drop k bytes))) (sym place)
@@ -220,25 +220,25 @@ module _ (lanes : Lanes) (s : Subject) where
     abbrev entry_rules : List Check
     entry_rules = entry_checks s.header.version before (entry_of bytes)
 
-    entry_answered : (left : ℕ) → 0 < left → (o : Option ℕ) → first_broken ((1, nat_le 16 (length bytes)) ∷ entry_rules) ≡ o
+    entry-answered : (left : ℕ) → 0 < left → (o : Option ℕ) → first_broken ((1, nat_le 16 (length bytes)) ∷ entry_rules) ≡ o
         → step lanes s (Entries left j before p all) bytes ≡ refused_by s.header.shards j o (behind_entry (left - 1) j p all bytes)
     unfolding machine_step
-    entry_answered zero some o e = absurd (omega (arith, some))
-    entry_answered (suc n) some o e =
+    entry-answered zero some o e = absurd (omega (arith, some))
+    entry-answered (suc n) some o e =
         ap (λ z. refused_by s.header.shards j z (behind_entry n j p all bytes)) e
         ∙ ap (λ k. refused_by s.header.shards j o (behind_entry k j p all bytes)) (let f : n ≡ suc n - 1 = omega arith in f)
 
-    pub entry_short : (left : ℕ) → 0 < left → length bytes < 16 → step lanes s (Entries left j before p all) bytes ≡ Err (at s.header.shards j 1)
-    entry_short left some lt = entry_answered left some (Some 1) (short 16 bytes entry_rules lt)
+    pub entry-short : (left : ℕ) → 0 < left → length bytes < 16 → step lanes s (Entries left j before p all) bytes ≡ Err (at s.header.shards j 1)
+    entry-short left some lt = entry-answered left some (Some 1) (short 16 bytes entry_rules lt)
 
-    pub entry_false : (left rule : ℕ) → 0 < left → 16 ≤ length bytes → first_broken entry_rules ≡ Some rule → step lanes s (Entries left j before p all) bytes ≡ Err (at s.header.shards j rule)
-    entry_false left rule some le e = entry_answered left some (Some rule) (room 16 bytes entry_rules le ∙ e)
+    pub entry-false : (left rule : ℕ) → 0 < left → 16 ≤ length bytes → first_broken entry_rules ≡ Some rule → step lanes s (Entries left j before p all) bytes ≡ Err (at s.header.shards j rule)
+    entry-false left rule some le e = entry-answered left some (Some rule) (room 16 bytes entry_rules le ∙ e)
 
-    pub entry_went : (left : ℕ) → 0 < left → 16 ≤ length bytes → first_broken entry_rules ≡ None → step lanes s (Entries left j before p all) bytes ≡ Ok (behind_entry (left - 1) j p all bytes)
-    entry_went left some le e = entry_answered left some None (room 16 bytes entry_rules le ∙ e)
+    pub entry-went : (left : ℕ) → 0 < left → 16 ≤ length bytes → first_broken entry_rules ≡ None → step lanes s (Entries left j before p all) bytes ≡ Ok (behind_entry (left - 1) j p all bytes)
+    entry-went left some le e = entry-answered left some None (room 16 bytes entry_rules le ∙ e)
 
     -- the end
-    pub end_found : (o : Option ℕ) (nothing : Bool) → nothing ≡ (length bytes == 0) → first_broken (end_checks s.header p all nothing) ≡ o → step lanes s (Entries 0 j before p all) bytes ≡ refused_by s.header.shards j o None
+    pub end-found : (o : Option ℕ) (nothing : Bool) → nothing ≡ (length bytes == 0) → first_broken (end_checks s.header p all nothing) ≡ o → step lanes s (Entries 0 j before p all) bytes ≡ refused_by s.header.shards j o None
     unfolding machine_step
-    end_found o nothing is e =
+    end-found o nothing is e =
         ap (λ z. refused_by s.header.shards j (first_broken (end_checks s.header p all z)) None) (sym is) ∙ ap (λ z. refused_by s.header.shards j z None) e

@@ -13,7 +13,7 @@ use Rattle.rv_reading.specs.Machine as machine
 use Rattle.rv_reading.specs.Machine.{told, step as machine_step}
 use Rattle.rv_reading.specs.Machine.Phase.{Shards, Rows, Entries}
 use Rattle.rv_reading.specs.Machine.Extent.{WholeFile}
-use Rattle.rv_reading.proofs.Lemmas.{machine_is_stream, whole_file_is_read, reads-step, reads-stops, states_wait, waiting_refused}
+use Rattle.rv_reading.proofs.Lemmas.{machine-is-stream, whole-file-is-read, reads-step, reads-stops, states-wait, waiting-refused}
 use Rattle.rv_judge.specs.declared.held.Reading.{Reading}
 use Rattle.rv_judge.specs.Subject.{Subject, step, step_to}
 use Rattle.rv_judge.specs.Phases.{phase_of, stopped}
@@ -24,9 +24,9 @@ use Rattle.rv_judge.specs.Held.{IsReading, ReadOn, RefusedOn, ReadsOn, comes, he
 refused : Refusal → Found machine.Phase
 refused r = Err r
 
-refuses_so : (o : Option Refusal) (r : Refusal) → Some r ≡ o → stopped o ≡ Err r
-refuses_so None r e = absurd cc
-refuses_so (Some q) r e = let same : r ≡ q = cc in ap (λ (z : Refusal). Err z) (sym same)
+refuses-so : (o : Option Refusal) (r : Refusal) → Some r ≡ o → stopped o ≡ Err r
+refuses-so None r e = absurd cc
+refuses-so (Some q) r e = let same : r ≡ q = cc in ap (λ (z : Refusal). Err z) (sym same)
 
 -- what lasts of a refusal is that refusal, by another rule than 1
 pub lasts : (o p : Option Refusal) (r : Refusal) → stopped p ≡ with_patience (stopped o) → p ≡ Some r → (stopped o ≡ Err r) × (¬ (r.rule ≡ 1))
@@ -38,42 +38,42 @@ lasts (Some q) p r e is = go (q.rule == 1) refl (ap stopped (sym is) ∙ e)
     go false f g = let same : q ≡ r = cc in (ap (λ (z : Refusal). Err z) same, λ one. eqb-false q.rule 1 f (ap (λ (z : Refusal). z.rule) same ∙ one))
 
 module _ (lanes : Lanes) (s : Subject) where
-  is_stream : IsStream machine.Phase (step lanes s)
-  is_stream = machine_is_stream true lanes s.elf s.input s.header s.output
+  is-stream : IsStream machine.Phase (step lanes s)
+  is-stream = machine-is-stream true lanes s.elf s.input s.header s.output
 
-  at_whole : (p : machine.Phase) (xs : List ℕ) → step_to lanes s WholeFile p xs ≡ step lanes s p xs
-  at_whole (Shards zero i p all) xs = refl
-  at_whole (Shards (suc n) i p all) xs = refl
-  at_whole (Rows n r m i x p all) xs = refl
-  at_whole (Entries zero j before p all) xs = refl
-  at_whole (Entries (suc n) j before p all) xs = refl
+  at-whole : (p : machine.Phase) (xs : List ℕ) → step_to lanes s WholeFile p xs ≡ step lanes s p xs
+  at-whole (Shards zero i p all) xs = refl
+  at-whole (Shards (suc n) i p all) xs = refl
+  at-whole (Rows n r m i x p all) xs = refl
+  at-whole (Entries zero j before p all) xs = refl
+  at-whole (Entries (suc n) j before p all) xs = refl
 
   whole : (p : machine.Phase) (xs : List ℕ) → reads (step_to lanes s WholeFile) p xs ≡ reads (step lanes s) p xs
-  whole p xs = whole_file_is_read true lanes s.elf s.input s.header s.output p xs
+  whole p xs = whole-file-is-read true lanes s.elf s.input s.header s.output p xs
 
   -- a state that waits has fewer bytes than a buffer
   pub few : (p : machine.Phase) (xs : List ℕ) → patient (step lanes s) p xs ≡ Ok None → length xs < 256
   unfolding reads_in
   few p xs e =
       let settled : settle (step lanes s) p xs ≡ Ok (p, xs) = ap (λ z. z >>= onwards (reads_in (patient (step lanes s)) (length xs)) (p, xs)) e in
-      (states_wait true lanes s.elf s.input s.header s.output p xs (p, xs) settled).1
+      (states-wait true lanes s.elf s.input s.header s.output p xs (p, xs) settled).1
 
   module _ (old new : machine.Phase) (bytes left : List ℕ) (o : Option Refusal) (stops : step_to lanes s WholeFile new left ≡ stopped o)
       (goes : (rest : List ℕ) → reads (step_to lanes s WholeFile) new (left ++ rest) ≡ reads (step_to lanes s WholeFile) old (bytes ++ rest)) where
-    stops_so : step lanes s new left ≡ stopped o
-    stops_so = sym (at_whole new left) ∙ stops
+    stops-so : step lanes s new left ≡ stopped o
+    stops-so = sym (at-whole new left) ∙ stops
 
-    pub goes_whole : (rest : List ℕ) → reads (step lanes s) new (left ++ rest) ≡ reads (step lanes s) old (bytes ++ rest)
-    goes_whole rest = sym (whole new (left ++ rest)) ∙ goes rest ∙ whole old (bytes ++ rest)
+    pub goes-whole : (rest : List ℕ) → reads (step lanes s) new (left ++ rest) ≡ reads (step lanes s) old (bytes ++ rest)
+    goes-whole rest = sym (whole new (left ++ rest)) ∙ goes rest ∙ whole old (bytes ++ rest)
 
     pub waits : with_patience (stopped o) ≡ Ok None → patient (step lanes s) new left ≡ Ok None
-    waits e = ap with_patience stops_so ∙ e
+    waits e = ap with_patience stops-so ∙ e
 
     pub stays : (r : Refusal) → stopped o ≡ Err r → ¬ (r.rule ≡ 1) → (rest : List ℕ) → reads (step lanes s) old (bytes ++ rest) ≡ Err r
-    stays r e not rest = sym (goes_whole rest) ∙ reads-stops (step lanes s) is_stream new left rest r (stops_so ∙ e) not
+    stays r e not rest = sym (goes-whole rest) ∙ reads-stops (step lanes s) is-stream new left rest r (stops-so ∙ e) not
 
     pub ends : (h : Header) → told h (reads (step lanes s) old (bytes ++ [])) ≡ told h (stopped o)
-    ends h = ap (told h) (sym (goes_whole []) ∙ ap (λ (z : List ℕ). reads (step lanes s) new z) (append-nil left) ∙ reads-step (step lanes s) is_stream new left) ∙ go o stops_so
+    ends h = ap (told h) (sym (goes-whole []) ∙ ap (λ (z : List ℕ). reads (step lanes s) new z) (append-nil left) ∙ reads-step (step lanes s) is-stream new left) ∙ go o stops-so
       where
         go : (q : Option Refusal) → step lanes s new left ≡ stopped q → told h (step lanes s new left >>= onwards (reads (step lanes s)) (new, left)) ≡ told h (stopped q)
         go None e = ap (λ z. told h (z >>= onwards (reads (step lanes s)) (new, left))) e
@@ -88,28 +88,28 @@ module _ (lanes : Lanes) (first cur : Reading) (xs ys : List ℕ) (on : ReadOn l
       ∙ on.goes (ys ++ rest)
       ∙ ap (λ (z : List ℕ). reads (step lanes first.subject) (phase_of first.machine) z) (sym (append_assoc xs ys rest))
 
-  pub on_and_on : (new : Reading) → ReadOn lanes cur new (cur.buffer.items ++ ys) → ReadOn lanes first new (xs ++ ys)
-  on_and_on new more = record {
+  pub on-and-on : (new : Reading) → ReadOn lanes cur new (cur.buffer.items ++ ys) → ReadOn lanes first new (xs ++ ys)
+  on-and-on new more = record {
     is = more.is;
     subject = more.subject ∙ on.subject;
     goes = λ rest. ap (λ (z : Subject). reads (step lanes z) (phase_of new.machine) (new.buffer.items ++ rest)) (sym on.subject) ∙ more.goes rest ∙ regrouped rest;
   }
 
-  pub on_and_refused : (r : Refusal) → RefusedOn lanes cur (cur.buffer.items ++ ys) r → RefusedOn lanes first (xs ++ ys) r
-  on_and_refused r refused = record { rule = refused.rule; stays = λ rest. sym (regrouped rest) ∙ refused.stays rest }
+  pub on-and-refused : (r : Refusal) → RefusedOn lanes cur (cur.buffer.items ++ ys) r → RefusedOn lanes first (xs ++ ys) r
+  on-and-refused r refused = record { rule = refused.rule; stays = λ rest. sym (regrouped rest) ∙ refused.stays rest }
 
-  pub on_and_reads : (new : Reading) (answer : Result (Unit {0}) Refusal) → ReadsOn lanes cur new (cur.buffer.items ++ ys) answer → ReadsOn lanes first new (xs ++ ys) answer
-  on_and_reads new (Ok u) more = on_and_on new more
-  on_and_reads new (Err r) refused = on_and_refused r refused
+  pub on-and-reads : (new : Reading) (answer : Result (Unit {0}) Refusal) → ReadsOn lanes cur new (cur.buffer.items ++ ys) answer → ReadsOn lanes first new (xs ++ ys) answer
+  on-and-reads new (Ok u) more = on-and-on new more
+  on-and-reads new (Err r) refused = on-and-refused r refused
 
-pub refused_more : (lanes : Lanes) (old : Reading) (xs ys : List ℕ) (r : Refusal) → RefusedOn lanes old xs r → RefusedOn lanes old (xs ++ ys) r
-refused_more lanes old xs ys r before = record {
+pub refused-more : (lanes : Lanes) (old : Reading) (xs ys : List ℕ) (r : Refusal) → RefusedOn lanes old xs r → RefusedOn lanes old (xs ++ ys) r
+refused-more lanes old xs ys r before = record {
   rule = before.rule;
   stays = λ rest. ap (λ (z : List ℕ). reads (step lanes old.subject) (phase_of old.machine) z) (append_assoc xs ys rest) ∙ before.stays (ys ++ rest);
 }
 
-pub on_nothing : (lanes : Lanes) (old : Reading) → IsReading lanes old → ReadOn lanes old old (old.buffer.items ++ [])
-on_nothing lanes old is = record {
+pub on-nothing : (lanes : Lanes) (old : Reading) → IsReading lanes old → ReadOn lanes old old (old.buffer.items ++ [])
+on-nothing lanes old is = record {
   is = is;
   subject = refl;
   goes = λ rest. ap (λ (z : List ℕ). reads (step lanes old.subject) (phase_of old.machine) (z ++ rest)) (sym (append-nil old.buffer.items));
@@ -117,32 +117,32 @@ on_nothing lanes old is = record {
 
 -- ---- what a state tells
 
-told_refuses : {A : Type 0} (h : Header) (z : Result A Refusal) (r : Refusal) → told h z ≡ Refuse r → z ≡ Err r
-told_refuses h (Ok x) r e = absurd cc
-told_refuses h (Err q) r e = let same : q ≡ r = cc in ap (λ (y : Refusal). Err y) same
+told-refuses : {A : Type 0} (h : Header) (z : Result A Refusal) (r : Refusal) → told h z ≡ Refuse r → z ≡ Err r
+told-refuses h (Ok x) r e = absurd cc
+told-refuses h (Err q) r e = let same : q ≡ r = cc in ap (λ (y : Refusal). Err y) same
 
 -- What waits is refused by rule 1, or not at all.
-pub only_short : (lanes : Lanes) (x : Reading) (r : Refusal) → IsReading lanes x → comes lanes (Ok (held_of x)) [] ≡ Refuse r → r.rule ≡ 1
-only_short lanes x r is e =
-    let refuses = told_refuses x.subject.header (reads (step lanes x.subject) (phase_of x.machine) (x.buffer.items ++ [])) r e in
+pub only-short : (lanes : Lanes) (x : Reading) (r : Refusal) → IsReading lanes x → comes lanes (Ok (held_of x)) [] ≡ Refuse r → r.rule ≡ 1
+only-short lanes x r is e =
+    let refuses = told-refuses x.subject.header (reads (step lanes x.subject) (phase_of x.machine) (x.buffer.items ++ [])) r e in
     let here = sym (ap (λ (z : List ℕ). reads (step lanes x.subject) (phase_of x.machine) z) (append-nil x.buffer.items)) ∙ refuses in
-    waiting_refused (step lanes x.subject) (is_stream lanes x.subject) (phase_of x.machine) x.buffer.items r is.waits here
+    waiting-refused (step lanes x.subject) (is-stream lanes x.subject) (phase_of x.machine) x.buffer.items r is.waits here
 
-pub nothing_held : (xs : List ℕ) → (length xs == 0) ≡ true → xs ≡ []
-nothing_held xs e = nil_from_length xs (eqb-true (length xs) 0 e)
+pub nothing-held : (xs : List ℕ) → (length xs == 0) ≡ true → xs ≡ []
+nothing-held xs e = nil_from_length xs (eqb-true (length xs) 0 e)
 
 -- a piece is what was taken of it, a byte, and the rest
-pub piece_cut : (held piece : List ℕ) (k : ℕ) → k < length piece → ((held ++ take k piece) ++ get_or piece k 0 ∷ []) ++ drop (k + 1) piece ≡ held ++ piece
-piece_cut held piece k lt =
+pub piece-cut : (held piece : List ℕ) (k : ℕ) → k < length piece → ((held ++ take k piece) ++ get_or piece k 0 ∷ []) ++ drop (k + 1) piece ≡ held ++ piece
+piece-cut held piece k lt =
     ap (λ (z : List ℕ). z ++ drop (k + 1) piece) (append_assoc held (take k piece) (get_or piece k 0 ∷ []) ∙ ap (λ (z : List ℕ). held ++ z) (sym (take_more piece k 0 lt)))
     ∙ append_assoc held (take (k + 1) piece) (drop (k + 1) piece)
     ∙ ap (λ (z : List ℕ). held ++ z) (take-append-drop (k + 1) piece)
 
 -- before the first shard more bytes are wanted
-pub begun_waits : (lanes : Lanes) (s : Subject) (n : ℕ) (p : Place) (all : machine.Sums) → patient (step lanes s) (Shards n 0 p all) [] ≡ Ok None
+pub begun-waits : (lanes : Lanes) (s : Subject) (n : ℕ) (p : Place) (all : machine.Sums) → patient (step lanes s) (Shards n 0 p all) [] ≡ Ok None
 unfolding machine_step
-begun_waits lanes s zero p all = refl
-begun_waits lanes s (suc n) p all = refl
+begun-waits lanes s zero p all = refl
+begun-waits lanes s (suc n) p all = refl
 
-pub opened_waits : (lanes : Lanes) (s : Subject) (p : machine.Phase) (held : List ℕ) → p ≡ machine.first_phase true lanes s.elf s.input s.header → held ≡ [] → patient (step lanes s) p held ≡ Ok None
-opened_waits lanes s p held begun none = (λ i. patient (step lanes s) (begun i) (none i)) ∙ begun_waits lanes s s.header.shards _ _
+pub opened-waits : (lanes : Lanes) (s : Subject) (p : machine.Phase) (held : List ℕ) → p ≡ machine.first_phase true lanes s.elf s.input s.header → held ≡ [] → patient (step lanes s) p held ≡ Ok None
+opened-waits lanes s p held begun none = (λ i. patient (step lanes s) (begun i) (none i)) ∙ begun-waits lanes s s.header.shards _ _

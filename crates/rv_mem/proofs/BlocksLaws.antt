@@ -4,12 +4,12 @@ use Rattle.std.proofs.lemmas.Bool.{eq-eqb, ne_eqb, eqb-true, eqb-false}
 use Rattle.std.proofs.lemmas.List.{get_or_past, get_or_default}
 use Rattle.rv_mem.specs.Blocks.{IsBlocks, table_of, block_number}
 
-pub is_it : (a b : ℕ) → (a ≡ b) ⊎ (a ≢ b)
-is_it a b = elim (a == b) as (λ c. (a == b) ≡ c → (a ≡ b) ⊎ (a ≢ b)) [ true ↦ λ e. inl (eqb-true a b e) | false ↦ λ e. inr (eqb-false a b e) ] refl
+pub is-it : (a b : ℕ) → (a ≡ b) ⊎ (a ≢ b)
+is-it a b = elim (a == b) as (λ c. (a == b) ≡ c → (a ≡ b) ⊎ (a ≢ b)) [ true ↦ λ e. inl (eqb-true a b e) | false ↦ λ e. inr (eqb-false a b e) ] refl
 
-pub none_or_some : (n : ℕ) → (n ≡ 0) ⊎ (0 < n)
-none_or_some zero = inl refl
-none_or_some (suc n) = inr (omega arith)
+pub none-or-some : (n : ℕ) → (n ≡ 0) ⊎ (0 < n)
+none-or-some zero = inl refl
+none-or-some (suc n) = inr (omega arith)
 
 -- without a table a block has no number
 pub number-none : (d : List ℕ) (p : ℕ) → table_of d p ≡ 0 → block_number d p ≡ 0
@@ -27,7 +27,7 @@ some-at d p l e h = number-some d p (omega arith) ∙ ap (λ n. get_or d (512 * 
 
 -- where no entry changes, no number does
 pub number-kept : (d e : List ℕ) → ((k : ℕ) → get_or e k 0 ≡ get_or d k 0) → (p : ℕ) → block_number e p ≡ block_number d p
-number-kept d e same p = go (none_or_some (table_of d p))
+number-kept d e same p = go (none-or-some (table_of d p))
   where
     go : (table_of d p ≡ 0) ⊎ (0 < table_of d p) → block_number e p ≡ block_number d p
     go (inl z) = number-none e p (same (p / 512) ∙ z) ∙ sym (number-none d p z)
@@ -36,14 +36,14 @@ number-kept d e same p = go (none_or_some (table_of d p))
 -- a new table at the end, named by the entry k of the upper level, changes no number
 pub number-table : (d g : List ℕ) (k l : ℕ) → IsBlocks d → l ≡ length d / 512 → ((j : ℕ) → get_or g j 0 ≡ get_or d j 0) → k < 512 → k < length g → get_or d k 0 ≡ 0
     → (p : ℕ) → p < 2 ^ 18 → block_number (set g k l) p ≡ block_number d p
-number-table d g k l sound level same within inside none p h = at (none_or_some (table_of d p)) (is_it (p / 512) k)
+number-table d g k l sound level same within inside none p h = at (none-or-some (table_of d p)) (is-it (p / 512) k)
   where
     -- an entry past the upper level is what it was
     beyond : (j : ℕ) → 512 ≤ j → get_or (set g k l) j 0 ≡ get_or d j 0
     beyond j b = get_or-set_other g k j l 0 (λ e. absurd (omega arith)) ∙ same j
 
     new : p / 512 ≡ k → block_number (set g k l) p ≡ 0
-    new e = go (none_or_some l)
+    new e = go (none-or-some l)
       where
         named : table_of (set g k l) p ≡ l
         named = ap (λ j. get_or (set g k l) j 0) e ∙ get_or-set_same g k l 0 inside
@@ -71,7 +71,7 @@ number-entered d p n sound h made =
 -- and no other block's number
 pub number-others : (d : List ℕ) (p n : ℕ) → IsBlocks d → p < 2 ^ 18 → 0 < table_of d p
     → (q : ℕ) → q < 2 ^ 18 → q ≢ p → block_number (set d (512 * table_of d p + p % 512) n) q ≡ block_number d q
-number-others d p n sound h made q within other = go (none_or_some (table_of d q))
+number-others d p n sound h made q within other = go (none-or-some (table_of d q))
   where
     place : ℕ
     place = 512 * table_of d p + p % 512
@@ -83,11 +83,11 @@ number-others d p n sound h made q within other = go (none_or_some (table_of d q
     go (inl z) = number-none (set d place n) q (kept ∙ z) ∙ sym (number-none d q z)
     go (inr b) =
         some-at (set d place n) q (table_of d q) kept b
-        ∙ get_or-set_other d place (512 * table_of d q + q % 512) n 0 (λ e. other (same_block (sound.apart (q / 512) (p / 512) (omega arith) (omega arith) b (omega arith)) e))
+        ∙ get_or-set_other d place (512 * table_of d q + q % 512) n 0 (λ e. other (same-block (sound.apart (q / 512) (p / 512) (omega arith) (omega arith) b (omega arith)) e))
         ∙ sym (number-some d q b)
       where
-        same_block : q / 512 ≡ p / 512 → 512 * table_of d q + q % 512 ≡ 512 * table_of d p + p % 512 → q ≡ p
-        same_block e f = omega arith
+        same-block : q / 512 ≡ p / 512 → 512 * table_of d q + q % 512 ≡ 512 * table_of d p + p % 512 → q ≡ p
+        same-block e f = omega arith
 
 -- what is read of a blocks that is not empty
 read : (xs : List ℕ) (i x : ℕ) → i < length xs → x ≡ get_or xs i x → get_or xs i 0 ≡ x

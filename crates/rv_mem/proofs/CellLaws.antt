@@ -22,8 +22,8 @@ use Rattle.rv_mem.specs.Left.{last_touch, value_after, time_after, IsLeft}
 use Rattle.rv_mem.specs.Used.{no_word, if_used, used, listed_word}
 use Rattle.rv_mem.specs.Words.{first_word}
 use Rattle.rv_mem.specs.StoredCells.{stored_word, stored_cell, contents, AreStoredCells, word_after}
-use Rattle.rv_mem.proofs.UsedLaws.{used-same, used-none, used-add, one_used}
-use Rattle.rv_mem.proofs.WordsLaws.{equal_or_not}
+use Rattle.rv_mem.proofs.UsedLaws.{used-same, used-none, used-add, one-used}
+use Rattle.rv_mem.proofs.WordsLaws.{equal-or-not}
 
 -- ---- the entry of a cell
 
@@ -60,7 +60,7 @@ found : (f : ℕ → Word) (from n c : ℕ) → from ≤ c → c < from + n → 
 unfolding used
 found f from zero c l h = absurd (omega arith)
 found f from (suc n) c l h =
-    find-append (λ e. e.cell == c) (used f from n) (if_used (from + n) (f (from + n))) ∙ by (equal_or_not (from + n) c) (found f from n c l)
+    find-append (λ e. e.cell == c) (used f from n) (if_used (from + n) (f (from + n))) ∙ by (equal-or-not (from + n) c) (found f from n c l)
   where
     by : (from + n ≡ c) ⊎ (from + n ≢ c) → (c < from + n → entry_at (used f from n) c ≡ if_found c (f c))
         → option_or (entry_at (used f from n) c) (entry_at (if_used (from + n) (f (from + n))) c) ≡ if_found c (f c)
@@ -107,8 +107,8 @@ value-beyond m r c h = ap (λ o. unwrap_or (option_map (λ (e : TableEntry). e.v
 
 -- ---- a change of one cell, and of none
 
-pub low_or_high : (a b : ℕ) → (a < b) ⊎ (b ≤ a)
-low_or_high a b = elim (nat_lt a b) as (λ t. nat_lt a b ≡ t → (a < b) ⊎ (b ≤ a)) [ true ↦ λ e. inl (ltb-true a b e) | false ↦ λ e. inr (ltb-false a b e) ] refl
+pub low-or-high : (a b : ℕ) → (a < b) ⊎ (b ≤ a)
+low-or-high a b = elim (nat_lt a b) as (λ t. nat_lt a b ≡ t → (a < b) ⊎ (b ≤ a)) [ true ↦ λ e. inl (ltb-true a b e) | false ↦ λ e. inr (ltb-false a b e) ] refl
 
 pub record IsChange (m n : Words) (r s : List Word) (cell : ℕ) (w : Word) : Type 0 where
   pub image : n.image ≡ m.image
@@ -118,7 +118,7 @@ pub record IsChange (m n : Words) (r s : List Word) (cell : ℕ) (w : Word) : Ty
   pub others : (c : ℕ) → c < 1073741857 → c ≢ cell → stored_cell n s c ≡ stored_cell m r c
 
 pub begun-changed : (m n : Words) (r s : List Word) (cell : ℕ) (w : Word) → AreStoredCells m r → 0 < w.time → IsChange m n r s cell w → AreStoredCells n s
-begun-changed m n r s cell w begun t change = record { full = change.full; cells = λ c h z. is c h z (equal_or_not c cell); unused = λ c h z. by c h z (equal_or_not c cell) }
+begun-changed m n r s cell w begun t change = record { full = change.full; cells = λ c h z. is c h z (equal-or-not c cell); unused = λ c h z. by c h z (equal-or-not c cell) }
   where
     is : (c : ℕ) → c < 1073741857 → 0 < (stored_cell n s c).time → (c ≡ cell) ⊎ (c ≢ cell) → IsTrue (is_cell 2 c)
     is c h z (inl e) = subst (λ k. IsTrue (is_cell 2 k)) (sym e) change.is_cell
@@ -137,8 +137,8 @@ set-changed m n r s cell w begun now h change = record {
   image = change.image;
   value_set = value-kept n s cell now h ∙ ap (λ (v : Word). v.value) change.here;
   time_set = time-kept n s cell h ∙ ap (λ (v : Word). v.time) change.here;
-  other_values = λ c d. values c d (low_or_high c 1073741857);
-  other_times = λ c d. times c d (low_or_high c 1073741857);
+  other_values = λ c d. values c d (low-or-high c 1073741857);
+  other_times = λ c d. times c d (low-or-high c 1073741857);
 }
   where
     values : (c : ℕ) → c ≢ cell → (c < 1073741857) ⊎ (1073741857 ≤ c) → value_at (contents n s) c ≡ value_at (contents m r) c
@@ -164,25 +164,25 @@ neither : (b : Bool) → (b && false || false) ≡ false
 neither true = refl
 neither false = refl
 
-no_cell : (c : ℕ) → 1073741857 ≤ c → is_cell 2 c ≡ false
-no_cell c h =
+no-cell : (c : ℕ) → 1073741857 ≤ c → is_cell 2 c ≡ false
+no-cell c h =
     ap (λ b. b || nat_lt (2 ^ 30) c && nat_lt c (2 ^ 30 + 32) || c == reservation_cell) (le-ltb c (2 ^ 30) (omega arith))
     ∙ ap (λ b. nat_lt (2 ^ 30) c && b || c == reservation_cell) (le-ltb c (2 ^ 30 + 32) (omega arith))
     ∙ ap (λ b. nat_lt (2 ^ 30) c && false || b) (ne_eqb c reservation_cell (λ q. absurd (omega arith)))
     ∙ neither (nat_lt (2 ^ 30) c)
 
 pub cell-within : (c : ℕ) → is_cell 2 c ≡ true → c < 1073741857
-cell-within c e = by (low_or_high c 1073741857)
+cell-within c e = by (low-or-high c 1073741857)
   where
     by : (c < 1073741857) ⊎ (1073741857 ≤ c) → c < 1073741857
     by (inl h) = h
-    by (inr h) = absurd (true≢false (sym e ∙ no_cell c h))
+    by (inr h) = absurd (true≢false (sym e ∙ no-cell c h))
 
 pub register-set : (m : Words) (r : List Word) (cell : ℕ) (w : Word) → length r ≡ 33 → 2 ^ 30 ≤ cell → cell < 1073741857 → stored_cell m (set r (cell - 2 ^ 30) w) cell ≡ w
 register-set m r cell w full low high = cell-register m (set r (cell - 2 ^ 30) w) cell low ∙ get_or-set_same r (cell - 2 ^ 30) w no_word (omega arith)
 
 pub register-others : (m : Words) (r : List Word) (cell : ℕ) (w : Word) → 2 ^ 30 ≤ cell → (c : ℕ) → c ≢ cell → stored_cell m (set r (cell - 2 ^ 30) w) c ≡ stored_cell m r c
-register-others m r cell w low c d = by (low_or_high c (2 ^ 30))
+register-others m r cell w low c d = by (low-or-high c (2 ^ 30))
   where
     by : (c < 2 ^ 30) ⊎ (2 ^ 30 ≤ c) → stored_cell m (set r (cell - 2 ^ 30) w) c ≡ stored_cell m r c
     by (inl l) = cell-word m (set r (cell - 2 ^ 30) w) c l ∙ sym (cell-word m r c l)
@@ -191,7 +191,7 @@ register-others m r cell w low c d = by (low_or_high c (2 ^ 30))
         ∙ sym (cell-register m r c l)
 
 pub word-others-kept : (m n : Words) (r : List Word) (cell : ℕ) → ((c : ℕ) → c < 2 ^ 30 → c ≢ cell → stored_word n c ≡ stored_word m c) → (c : ℕ) → c ≢ cell → stored_cell n r c ≡ stored_cell m r c
-word-others-kept m n r cell others c d = by (low_or_high c (2 ^ 30))
+word-others-kept m n r cell others c d = by (low-or-high c (2 ^ 30))
   where
     by : (c < 2 ^ 30) ⊎ (2 ^ 30 ≤ c) → stored_cell n r c ≡ stored_cell m r c
     by (inl l) = cell-word n r c l ∙ others c l d ∙ sym (cell-word m r c l)
@@ -199,7 +199,7 @@ word-others-kept m n r cell others c d = by (low_or_high c (2 ^ 30))
 
 -- where no word changes, no cell does
 pub same-cells : (m n : Words) (r : List Word) → ((c : ℕ) → c < 2 ^ 30 → stored_word n c ≡ stored_word m c) → (c : ℕ) → stored_cell n r c ≡ stored_cell m r c
-same-cells m n r same c = by (low_or_high c (2 ^ 30))
+same-cells m n r same c = by (low-or-high c (2 ^ 30))
   where
     by : (c < 2 ^ 30) ⊎ (2 ^ 30 ≤ c) → stored_cell n r c ≡ stored_cell m r c
     by (inl l) = cell-word n r c l ∙ same c l ∙ sym (cell-word m r c l)
@@ -265,11 +265,11 @@ module _ (m n : Words) (r s : List Word) (step : ℕ) (ts : List Touch) (begun :
   beyond : (c : ℕ) → 1073741857 ≤ c → last_touch ts c ≡ None
   beyond c h = elim (last-in (λ t. IsTrue (is_cell 2 t.cell)) ts c cells (last_touch ts c) refl) [
     | inl none ↦ none
-    | inr l ↦ absurd (true≢false (sym l.2 ∙ ap (is_cell 2) l.3 ∙ no_cell c h))
+    | inr l ↦ absurd (true≢false (sym l.2 ∙ ap (is_cell 2) l.3 ∙ no-cell c h))
   ]
 
   pub is-left : IsLeft (contents m r) (contents n s) step ts
-  is-left = record { image = image; values = λ c. values c (low_or_high c 1073741857); times = λ c. times c (low_or_high c 1073741857) }
+  is-left = record { image = image; values = λ c. values c (low-or-high c 1073741857); times = λ c. times c (low-or-high c 1073741857) }
     where
       values : (c : ℕ) → (c < 1073741857) ⊎ (1073741857 ≤ c) → value_at (contents n s) c ≡ value_after ts c (value_at (contents m r) c)
       values c (inl l) = value-kept n s c begun-left l ∙ ap (λ (v : Word). v.value) (left c l) ∙ ap (value_after ts c) (sym (value-kept m r c begun l))
@@ -295,16 +295,16 @@ replicated (suc n) zero = refl
 replicated (suc n) (suc k) = replicated n k
 
 register-first : (r : ℕ) → get_or first_registers r no_word ≡ pointer_or_zero r
-register-first r = by (equal_or_not r 2)
+register-first r = by (equal-or-not r 2)
   where
     by : (r ≡ 2) ⊎ (r ≢ 2) → get_or first_registers r no_word ≡ pointer_or_zero r
     by (inl e) = ap (λ k. get_or first_registers k no_word) e ∙ ap pointer_or_zero (sym e)
     by (inr d) =
         get_or-set_other (replicate 33 no_word) 2 r (record { value = 0x7FFFF000; time = 0 }) no_word d ∙ replicated 33 r
-        ∙ ap (λ b. to_word (cond b 0x7FFFF000 0)) (sym (ne_eqb r 2 d))
+        ∙ ap (λ b. to-word (cond b 0x7FFFF000 0)) (sym (ne_eqb r 2 d))
       where
-        to_word : ℕ → Word
-        to_word v = record { value = v; time = 0 }
+        to-word : ℕ → Word
+        to-word v = record { value = v; time = 0 }
 
 -- beyond the cells there is nothing
 pub nothing-beyond : (m : Words) (r : List Word) (c : ℕ) → 1073741857 ≤ c → 0 ≡ value_at (contents m r) c
@@ -313,16 +313,16 @@ nothing-beyond m r c h =
     ∙ ap (λ b. cond b 0x7FFFF000 0) (ne_eqb (c - 2 ^ 30) 2 (λ e. absurd (omega arith))))
 
 first-cell : (m : Words) → ((w : ℕ) → stored_word m w ≡ first_word m.image w) → (c : ℕ) → stored_cell m first_registers c ≡ first_word m.image c
-first-cell m begun c = by (low_or_high c (2 ^ 30))
+first-cell m begun c = by (low-or-high c (2 ^ 30))
   where
     by : (c < 2 ^ 30) ⊎ (2 ^ 30 ≤ c) → stored_cell m first_registers c ≡ first_word m.image c
     by (inl l) = cell-word m first_registers c l ∙ begun c
     by (inr l) =
         cell-register m first_registers c l ∙ register-first (c - 2 ^ 30)
-        ∙ ap to_word (sym (initial-register m.image (c - 2 ^ 30)) ∙ ap (initial_value m.image) (let k : 2 ^ 30 + (c - 2 ^ 30) ≡ c = omega arith in k))
+        ∙ ap to-word (sym (initial-register m.image (c - 2 ^ 30)) ∙ ap (initial_value m.image) (let k : 2 ^ 30 + (c - 2 ^ 30) ≡ c = omega arith in k))
       where
-        to_word : ℕ → Word
-        to_word v = record { value = v; time = 0 }
+        to-word : ℕ → Word
+        to-word v = record { value = v; time = 0 }
 
 pub begun-first : (m : Words) → ((w : ℕ) → stored_word m w ≡ first_word m.image w) → AreStoredCells m first_registers
 begun-first m begun = record { full = refl; cells = λ c h z. (let none : (stored_cell m first_registers c).time ≡ 0 = ap (λ (v : Word). v.time) (first-cell m begun c) in absurd (omega arith)); unused = λ c h z. ap (λ (v : Word). v.value) (first-cell m begun c) }
@@ -396,13 +396,13 @@ listed-used f from (suc n) e there = by (Contains-append_cases (used f from n) (
 used-listed : (f : ℕ → Word) (from n c : ℕ) → from ≤ c → c < from + n → 0 < (f c).time → Contains (used f from n) (entry c (f c))
 unfolding used
 used-listed f from zero c l h t = absurd (omega arith)
-used-listed f from (suc n) c l h t = by (equal_or_not (from + n) c) (λ low. used-listed f from n c l low t)
+used-listed f from (suc n) c l h t = by (equal-or-not (from + n) c) (λ low. used-listed f from n c l low t)
   where
     by : (from + n ≡ c) ⊎ (from + n ≢ c) → (c < from + n → Contains (used f from n) (entry c (f c))) → Contains (used f from n ++ if_used (from + n) (f (from + n))) (entry c (f c))
     by (inl e) before =
         Contains-append_right (used f from n) (if_used (from + n) (f (from + n))) (entry c (f c))
         (subst (λ k. Contains (if_used k (f k)) (entry c (f c))) (sym e)
-        (subst (λ (l : List TableEntry). Contains l (entry c (f c))) (sym (one_used c (f c) t)) (0, (omega arith), refl)))
+        (subst (λ (l : List TableEntry). Contains l (entry c (f c))) (sym (one-used c (f c) t)) (0, (omega arith), refl)))
     by (inr d) before = Contains-append_left (used f from n) (if_used (from + n) (f (from + n))) (entry c (f c)) (before (omega arith))
 
 pub table-touched : (m : Words) (r : List Word) → AreStoredCells m r → IsTable (contents m r) (contents m r).touched
@@ -422,7 +422,7 @@ table-touched m r begun = record {
         ap (λ (e : TableEntry). e.value) is ∙ sym (value-kept m r c begun low) ∙ ap (value_at (contents m r)) (sym cell),
         time ∙ sym (time-kept m r c low) ∙ ap (time_at (contents m r)) (sym cell),
       );
-  all_set = λ c t. by c t (low_or_high c 1073741857);
+  all_set = λ c t. by c t (low-or-high c 1073741857);
 }
   where
     by : (c : ℕ) → 0 < time_at (contents m r) c → (c < 1073741857) ⊎ (1073741857 ≤ c)
@@ -430,11 +430,11 @@ table-touched m r begun = record {
     by c t (inr h) = absurd (let none = time-beyond m r c h in omega arith)
     by c t (inl h) =
         let time = time-kept m r c h in
-        subst (λ (e : TableEntry). Contains (contents m r).touched e) (ap₂ (to_entry c) (sym (value-kept m r c begun h)) (sym time))
+        subst (λ (e : TableEntry). Contains (contents m r).touched e) (ap₂ (to-entry c) (sym (value-kept m r c begun h)) (sym time))
         (used-listed (stored_cell m r) 0 1073741857 c (omega arith) (omega arith) (omega arith))
       where
-        to_entry : ℕ → ℕ → ℕ → TableEntry
-        to_entry c v t = record { cell = c; value = v; time = t }
+        to-entry : ℕ → ℕ → ℕ → TableEntry
+        to-entry c v t = record { cell = c; value = v; time = t }
 
 -- a fact that holds holds on an error
 pub on-err : {T E : Type 0} (r : Result T E) (P : Type 0) → P → OnErr r P

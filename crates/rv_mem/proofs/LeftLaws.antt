@@ -8,7 +8,7 @@ use Rattle.rv_spec.specs.Cells.{time_of}
 use Rattle.rv_mem.specs.declared.word.Word.{Word}
 use Rattle.rv_mem.specs.Left.{last_touch}
 use Rattle.rv_mem.specs.StoredCells.{word_after}
-use Rattle.rv_mem.proofs.WordsLaws.{equal_or_not}
+use Rattle.rv_mem.proofs.WordsLaws.{equal-or-not}
 
 -- a further touch is the last one of its cell
 pub last-snoc : (ts : List Touch) (t : Touch) (c : ℕ) → last_touch (ts ++ t ∷ []) c ≡ cond (t.cell == c) (Some t) (last_touch ts c)
@@ -28,7 +28,7 @@ touched_word step t = record { value = t.new; time = time_of step t.slot }
 
 pub after-more : (step : ℕ) (ts : List Touch) (i c : ℕ) (d : Touch) (w old new : Word) → i < length ts → old ≡ word_after step (take i ts) c w
     → (c ≡ (get_or ts i d).cell → new ≡ touched_word step (get_or ts i d)) → (c ≢ (get_or ts i d).cell → new ≡ old) → new ≡ word_after step (take (i + 1) ts) c w
-after-more step ts i c d w old new h before here other = by (equal_or_not c (get_or ts i d).cell)
+after-more step ts i c d w old new h before here other = by (equal-or-not c (get_or ts i d).cell)
   where
     after : Option Touch → Word
     after o = record { value = unwrap_or (option_map (λ (t : Touch). t.new) o) w.value; time = unwrap_or (option_map (λ (t : Touch). time_of step t.slot) o) w.time }

@@ -16,8 +16,8 @@ used-suc f from n = ap (used f from) (let e : n + 1 ≡ suc n = omega arith in e
 pub unused : (c : ℕ) (w : Word) → w.time ≡ 0 → if_used c w ≡ []
 unused c w e = ap (λ t. cond (nat_lt 0 t) (record { cell = c; value = w.value; time = w.time } ∷ []) []) e
 
-pub one_used : (c : ℕ) (w : Word) → 0 < w.time → if_used c w ≡ record { cell = c; value = w.value; time = w.time } ∷ []
-one_used c w h = ap (λ b. cond b (record { cell = c; value = w.value; time = w.time } ∷ []) []) (lt-ltb 0 w.time h)
+pub one-used : (c : ℕ) (w : Word) → 0 < w.time → if_used c w ≡ record { cell = c; value = w.value; time = w.time } ∷ []
+one-used c w h = ap (λ b. cond b (record { cell = c; value = w.value; time = w.time } ∷ []) []) (lt-ltb 0 w.time h)
 
 pub used-add : (f : ℕ → Word) (from n m : ℕ) → used f from (n + m) ≡ used f from n ++ used f (from + n) m
 unfolding used
@@ -52,7 +52,7 @@ pub next-used : (words : List Word) (first i : ℕ) → 0 < (get_or words i no_w
 next-used words first i t =
     used-suc (listed_word words first) first i
     ∙ ap (λ v. used (listed_word words first) first i ++ if_used (first + i) v) (read-word words first i)
-    ∙ ap (λ l. used (listed_word words first) first i ++ l) (one_used (first + i) (get_or words i no_word) t)
+    ∙ ap (λ l. used (listed_word words first) first i ++ l) (one-used (first + i) (get_or words i no_word) t)
 
 pub next-unused : (words : List Word) (first i : ℕ) → (get_or words i no_word).time ≡ 0
     → used (listed_word words first) first (i + 1) ≡ used (listed_word words first) first i

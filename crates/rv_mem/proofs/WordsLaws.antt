@@ -18,12 +18,12 @@ use Rattle.rv_mem.proofs.BlocksLaws as tables
 use Rattle.rv_mem.proofs.DirectoryLaws.{number-none}
 use Rattle.rv_mem.proofs.UsedLaws.{used-same, used-none, used-add}
 
-zero_or_next : (n : ℕ) → (n ≡ 0) ⊎ ((k : ℕ) × (n ≡ k + 1))
-zero_or_next zero = inl refl
-zero_or_next (suc n) = inr (n, omega arith)
+zero-or-next : (n : ℕ) → (n ≡ 0) ⊎ ((k : ℕ) × (n ≡ k + 1))
+zero-or-next zero = inl refl
+zero-or-next (suc n) = inr (n, omega arith)
 
-pub equal_or_not : (a b : ℕ) → (a ≡ b) ⊎ (a ≢ b)
-equal_or_not a b = elim (a == b) as (λ c. (a == b) ≡ c → (a ≡ b) ⊎ (a ≢ b)) [ true ↦ λ e. inl (eqb-true a b e) | false ↦ λ e. inr (eqb-false a b e) ] refl
+pub equal-or-not : (a b : ℕ) → (a ≡ b) ⊎ (a ≢ b)
+equal-or-not a b = elim (a == b) as (λ c. (a == b) ≡ c → (a ≡ b) ⊎ (a ≢ b)) [ true ↦ λ e. inl (eqb-true a b e) | false ↦ λ e. inr (eqb-false a b e) ] refl
 
 -- a word without a page is that of the image
 pub word-none : (i : Image) (d : Directory) (pages : List Page) (w : ℕ) → page_number d (w / 16) ≡ 0 → paged_word i d pages w ≡ first_word i w
@@ -52,7 +52,7 @@ pub word-added : (i : Image) (d e : Directory) (pages : List Page) (p : ℕ) (pa
     → page_number d p ≡ 0 → page_number e p ≡ length pages + 1 → ((q : ℕ) → q < 2 ^ 26 → q ≢ p → page_number e q ≡ page_number d q)
     → ((k : ℕ) → k < 16 → get_or page.words k no_word ≡ first_word i (16 * p + k))
     → (w : ℕ) → w < 2 ^ 30 → paged_word i e (pages ++ page ∷ []) w ≡ paged_word i d pages w
-word-added i d e pages p page sound absent made same begun w h = by (equal_or_not (w / 16) p)
+word-added i d e pages p page sound absent made same begun w h = by (equal-or-not (w / 16) p)
   where
     new : w / 16 ≡ p → paged_word i e (pages ++ page ∷ []) w ≡ paged_word i d pages w
     new at =
@@ -71,7 +71,7 @@ word-added i d e pages p page sound absent made same begun w h = by (equal_or_no
 
     by : (w / 16 ≡ p) ⊎ (w / 16 ≢ p) → paged_word i e (pages ++ page ∷ []) w ≡ paged_word i d pages w
     by (inl at) = new at
-    by (inr n) = old n (zero_or_next (page_number d (w / 16)))
+    by (inr n) = old n (zero-or-next (page_number d (w / 16)))
 
 -- a word that is set in its page
 pub word-set : (i : Image) (d : Directory) (pages : List Page) (w index : ℕ) (word : Word) (page changed : Page) → page_number d (w / 16) ≡ index + 1 → index < length pages
@@ -87,7 +87,7 @@ word-set i d pages w index word page changed e h is =
 pub word-others : (i : Image) (d : Directory) (pages : List Page) (w index : ℕ) (word : Word) (page changed : Page) → ArePages d pages → w < 2 ^ 30 → page_number d (w / 16) ≡ index + 1
     → index < length pages → page ≡ get_or pages index page → changed.words ≡ set page.words (w % 16) word
     → (v : ℕ) → v < 2 ^ 30 → v ≢ w → paged_word i d (set pages index changed) v ≡ paged_word i d pages v
-word-others i d pages w index word page changed sound low e h f is v within other = by (equal_or_not (v / 16) (w / 16)) (zero_or_next (page_number d (v / 16)))
+word-others i d pages w index word page changed sound low e h f is v within other = by (equal-or-not (v / 16) (w / 16)) (zero-or-next (page_number d (v / 16)))
   where
     by : (v / 16 ≡ w / 16) ⊎ (v / 16 ≢ w / 16) → (page_number d (v / 16) ≡ 0) ⊎ ((k : ℕ) × (page_number d (v / 16) ≡ k + 1)) → paged_word i d (set pages index changed) v ≡ paged_word i d pages v
     by (inl at) o =
@@ -196,9 +196,9 @@ pub next-no_table : (i : Image) (d : Directory) (pages : List Page) (table : ℕ
 next-no_table i d pages table made e told =
     no-stretch (paged_word i d pages) 0 2097152 table
     (ap (λ k. used (paged_word i d pages) k 2097152) (let k : 0 + 2097152 * table ≡ 2097152 * table = omega arith in k)
-    ∙ used-no_table i d pages table (no_number made e (get_or d.blocks.entries.items table 0) told))
+    ∙ used-no_table i d pages table (no-number made e (get_or d.blocks.entries.items table 0) told))
   where
-    no_number : (b : Bool) → b ≡ false → (n : ℕ) → (0 < n → IsTrue b) → n ≡ 0
-    no_number true f n h = absurd (true≢false f)
-    no_number false f zero h = refl
-    no_number false f (suc n) h = absurd (true≢false (sym (h (omega arith))))
+    no-number : (b : Bool) → b ≡ false → (n : ℕ) → (0 < n → IsTrue b) → n ≡ 0
+    no-number true f n h = absurd (true≢false f)
+    no-number false f zero h = refl
+    no-number false f (suc n) h = absurd (true≢false (sym (h (omega arith))))

@@ -11,13 +11,10 @@ use Rattle.rv_spec.specs.Grammar.{IsRising}
 use Rattle.rv_spec.specs.Multiset.{Same, count, same_tuple}
 use Rattle.rv_rules.specs.Chain.{AllDiffer, AreOrdered, IsChain, value_before}
 use Rattle.rv_rules.specs.Membership.{In}
-use Rattle.rv_rules.proofs.Lemmas.{in-map, in-count, count-in}
-use Rattle.rv_rules.proofs.Lemmas.{left_at-is}
-use Rattle.rv_rules.proofs.Lemmas.{in-append, in-left, in-right, in-map-back, all-in, all-of, rising-in, in-rising, rising-rises}
-use Rattle.rv_rules.proofs.Lemmas.{count-cons, same_tuple-true}
+use Rattle.rv_rules.proofs.Lemmas.{in-map, in-count, count-in, left_at-is, in-append, in-left, in-right, in-map-back, all-in, all-of, rising-in, in-rising, rising-rises, count-cons, same_tuple-true}
 use Rattle.rv_order.specs.OwnTimes.{HaveOwnTimes}
 use Rattle.rv_order.proofs.LastUse.{last_use-most, last_use-in, last_use-lt}
-use Rattle.rv_order.proofs.Pigeonhole.{same_from_le}
+use Rattle.rv_order.proofs.Pigeonhole.{same-from-le}
 
 -- ---- readers of which no two at one cell have one time
 
@@ -50,11 +47,11 @@ module _ (bound : ℕ) where
       (all-of (λ f. e.cell ≡ f.cell → e.time ≢ f.time) (es ++ map (final bound) table) apart, readers-apart es table d.1 b.1 r)
 
 -- where readers of one cell at two times read two times, no tuple is read twice
-read_once : (all : List Event) → ((e f : Event) → In e all → In f all → e.cell ≡ f.cell → e.time < f.time → e.prev ≢ f.prev) → (rs : List Event) → ((e : Event) → In e rs → In e all) → AreApart rs → (t : Tuple) → count t (map tuple_read rs) ≤ 1
+read-once : (all : List Event) → ((e f : Event) → In e all → In f all → e.cell ≡ f.cell → e.time < f.time → e.prev ≢ f.prev) → (rs : List Event) → ((e : Event) → In e rs → In e all) → AreApart rs → (t : Tuple) → count t (map tuple_read rs) ≤ 1
 unfolding count
-read_once all h [] among apart t = omega arith
-read_once all h (e ∷ es) among apart t =
-    let rest : count t (map tuple_read es) ≤ 1 = read_once all h es (λ f m. among f (inr m)) apart.1 t in
+read-once all h [] among apart t = omega arith
+read-once all h (e ∷ es) among apart t =
+    let rest : count t (map tuple_read es) ≤ 1 = read-once all h es (λ f m. among f (inr m)) apart.1 t in
     let alone : t ≡ tuple_read e → count t (map tuple_read es) ≡ 0 = λ same. elim (eq-zero-or-pos (count t (map tuple_read es))) [
       | inl none ↦ none
       | inr some ↦
@@ -93,13 +90,13 @@ module _ (initial : ℕ → ℕ) (es : List Event) (table : List TableEntry) (bo
   below e m = all-in (λ e. e.time < bound) es o.below e m
 
   -- the table has an entry for each cell that is used
-  entry_cells : (cs : List ℕ) → map (λ t. t.cell) (map (last_entry own bound) cs) ≡ cs
-  entry_cells [] = refl
-  entry_cells (d ∷ ds) = λ i. d ∷ entry_cells ds i
+  entry-cells : (cs : List ℕ) → map (λ t. t.cell) (map (last_entry own bound) cs) ≡ cs
+  entry-cells [] = refl
+  entry-cells (d ∷ ds) = λ i. d ∷ entry-cells ds i
 
   cells : map (λ t. t.cell) table ≡ rising (map (λ w. w.cell) own)
   unfolding table_of
-  cells = ap (map (λ t. t.cell)) c.last ∙ entry_cells (rising (map (λ w. w.cell) own))
+  cells = ap (map (λ t. t.cell)) c.last ∙ entry-cells (rising (map (λ w. w.cell) own))
 
   entry : (t : TableEntry) → In t table → t ≡ last_entry own bound t.cell
   unfolding table_of
@@ -134,11 +131,11 @@ module _ (initial : ℕ → ℕ) (es : List Event) (table : List TableEntry) (bo
     most : e.time ≤ bound
     tabled : In e.cell (map (λ t. t.cell) table)
 
-  not_zero : (n : ℕ) → 0 < n → (n == 0) ≡ false
-  not_zero n h = ne_eqb n 0 (λ e. omega arith)
+  not-zero : (n : ℕ) → 0 < n → (n == 0) ≡ false
+  not-zero n h = ne_eqb n 0 (λ e. omega arith)
 
-  access_reads : (e : Event) → In e es → IsReader e
-  access_reads e m = record {
+  access-reads : (e : Event) → In e es → IsReader e
+  access-reads e m = record {
     prev = all-in (λ e. e.prev ≡ last_use own e.cell e.time) es c.times e m;
     old = all-in (λ e. e.old ≡ value_before initial own e.cell e.time) es c.values e m;
     positive = positive e m;
@@ -146,14 +143,14 @@ module _ (initial : ℕ → ℕ) (es : List Event) (table : List TableEntry) (bo
     tabled = subst (In e.cell) (sym cells) (rising-in e.cell (map (λ w. w.cell) own) (in-map (λ w. w.cell) (tuple_written e) own (in-map tuple_written e es m)));
   }
 
-  entry_reads : (t : TableEntry) → In t table → IsReader (final bound t)
-  entry_reads t m =
+  entry-reads : (t : TableEntry) → In t table → IsReader (final bound t)
+  entry-reads t m =
       let time : t.time ≡ last_use own t.cell bound = ap (λ z. z.time) (entry t m) in
       let last : 0 < last_use own t.cell bound = omega (arith, time, late t m) in
       let value : t.value ≡ left_at own t.cell (last_use own t.cell bound) = ap (λ z. z.value) (entry t m) in
       record {
         prev = time;
-        old = value ∙ ap (λ b. cond b (initial t.cell) (left_at own t.cell (last_use own t.cell bound))) (sym (not_zero (last_use own t.cell bound) last));
+        old = value ∙ ap (λ b. cond b (initial t.cell) (left_at own t.cell (last_use own t.cell bound))) (sym (not-zero (last_use own t.cell bound) last));
         positive = elim (last_use-in own t.cell bound) [
           | inl none ↦ omega (arith, last, none)
           | inr some ↦ omega (arith, some.4)
@@ -164,13 +161,13 @@ module _ (initial : ℕ → ℕ) (es : List Event) (table : List TableEntry) (bo
 
   reads : (e : Event) → In e readers → IsReader e
   reads e m = elim (in-append e es (map (final bound) table) m) [
-    | inl h ↦ access_reads e h
-    | inr h ↦ let r = in-map-back (final bound) e table h in subst IsReader (sym r.2) (entry_reads r.0 r.1)
+    | inl h ↦ access-reads e h
+    | inr h ↦ let r = in-map-back (final bound) e table h in subst IsReader (sym r.2) (entry-reads r.0 r.1)
   ]
 
   -- a reader before another one at its cell is an access, so the other reads its time or a later one
-  read_apart : (e f : Event) → In e readers → In f readers → e.cell ≡ f.cell → e.time < f.time → e.prev ≢ f.prev
-  read_apart e f me mf cell early prevs = elim (in-append e es (map (final bound) table) me) [
+  read-apart : (e f : Event) → In e readers → In f readers → e.cell ≡ f.cell → e.time < f.time → e.prev ≢ f.prev
+  read-apart e f me mf cell early prevs = elim (in-append e es (map (final bound) table) me) [
     | inl h ↦
         let last : e.time ≤ last_use own f.cell f.time = last_use-most own f.cell f.time (tuple_written e) (in-map tuple_written e es h) cell early in
         omega (arith, last, (reads e me).prev, (reads f mf).prev, last_use-lt own e.cell e.time (positive e h))
@@ -180,8 +177,8 @@ module _ (initial : ℕ → ℕ) (es : List Event) (table : List TableEntry) (bo
   ]
 
   -- what is read was written
-  was_written : (e : Event) → In e readers → In (tuple_read e) ws
-  was_written e m =
+  was-written : (e : Event) → In e readers → In (tuple_read e) ws
+  was-written e m =
       let r : IsReader e = reads e m in
       let by : ℕ → ℕ = λ n. cond (n == 0) (initial e.cell) (left_at own e.cell n) in
       elim (last_use-in own e.cell e.time) [
@@ -195,31 +192,31 @@ module _ (initial : ℕ → ℕ) (es : List Event) (table : List TableEntry) (bo
             let own_event = in-map-back tuple_written w es some.1 in
             let late : 0 < w.time = omega (arith, positive own_event.0 own_event.1, ap (λ z. z.time) own_event.2) in
             let time : e.prev ≡ w.time = r.prev ∙ sym some.3 in
-            let value : e.old ≡ w.value = r.old ∙ ap by (sym some.3) ∙ ap (λ b. cond b (initial e.cell) (left_at own e.cell w.time)) (not_zero w.time late) ∙ ap (λ d. left_at own d w.time) (sym some.2) ∙ left_at-is es o.differ w some.1 in
+            let value : e.old ≡ w.value = r.old ∙ ap by (sym some.3) ∙ ap (λ b. cond b (initial e.cell) (left_at own e.cell w.time)) (not-zero w.time late) ∙ ap (λ d. left_at own d w.time) (sym some.2) ∙ left_at-is es o.differ w some.1 in
             let same : tuple_read e ≡ w = λ i. record { cell = sym some.2 i; value = value i; time = time i } in
             subst (λ w. In w ws) (sym same) (in-left w own (map (tuple_first initial) table) some.1)
       ]
 
-  finals_read : (ts : List TableEntry) → map tuple_read (map (final bound) ts) ≡ map tuple_last ts
-  finals_read [] = refl
-  finals_read (t ∷ ts) = λ i. tuple_last t ∷ finals_read ts i
+  finals-read : (ts : List TableEntry) → map tuple_read (map (final bound) ts) ≡ map tuple_last ts
+  finals-read [] = refl
+  finals-read (t ∷ ts) = λ i. tuple_last t ∷ finals-read ts i
 
-  all_of_readers : map tuple_read readers ≡ all_read es table
-  all_of_readers = map-append tuple_read es (map (final bound) table) ∙ ap (λ l. map tuple_read es ++ l) (finals_read table)
+  all-of-readers : map tuple_read readers ≡ all_read es table
+  all-of-readers = map-append tuple_read es (map (final bound) table) ∙ ap (λ l. map tuple_read es ++ l) (finals-read table)
 
   once : (t : Tuple) → count t (map tuple_read readers) ≤ 1
-  once = read_once readers read_apart readers (λ e m. m) (readers-apart bound es table o.differ o.below ordered.rising)
+  once = read-once readers read-apart readers (λ e m. m) (readers-apart bound es table o.differ o.below ordered.rising)
 
-  read_le : (t : Tuple) → count t (map tuple_read readers) ≤ count t ws
-  read_le t = elim (eq-zero-or-pos (count t (map tuple_read readers))) [
+  read-le : (t : Tuple) → count t (map tuple_read readers) ≤ count t ws
+  read-le t = elim (eq-zero-or-pos (count t (map tuple_read readers))) [
     | inl none ↦ omega (arith, none)
     | inr some ↦
         let r = in-map-back tuple_read t readers (count-in t (map tuple_read readers) some) in
-        omega (arith, once t, in-count t ws (subst (λ w. In w ws) (sym r.2) (was_written r.0 r.1)))
+        omega (arith, once t, in-count t ws (subst (λ w. In w ws) (sym r.2) (was-written r.0 r.1)))
   ]
 
-  as_many : length (all_read es table) ≡ length ws
-  as_many = simp (length-append, length-map)
+  as-many : length (all_read es table) ≡ length ws
+  as-many = simp (length-append, length-map)
 
   pub same : Same (all_read es table) ws
-  same = record { counts = same_from_le (all_read es table) ws as_many (λ t. subst (λ l. count t l ≤ count t ws) all_of_readers (read_le t)) }
+  same = record { counts = same-from-le (all_read es table) ws as-many (λ t. subst (λ l. count t l ≤ count t ws) all-of-readers (read-le t)) }

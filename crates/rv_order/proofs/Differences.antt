@@ -6,11 +6,9 @@ use Rattle.std.proofs.lemmas.List.Sorted.{sum_by-IsPermutation}
 use Rattle.std.specs.List.{AllByRecursion}
 use Rattle.rv_base.specs.declared.record.Tuple.{Tuple}
 use Rattle.rv_spec.specs.Multiset.{count, same_tuple, Same}
-use Rattle.rv_rules.proofs.Lemmas.{count-cons}
-use Rattle.rv_rules.proofs.Lemmas.{count-in, in-count}
-use Rattle.rv_rules.proofs.Lemmas.{all-in, all-of}
+use Rattle.rv_rules.proofs.Lemmas.{count-cons, count-in, in-count, all-in, all-of}
 use Rattle.rv_order.specs.Order.{IsBefore, IsInOrder, IsLeastDiffering}
-use Rattle.rv_order.proofs.TupleOrder.{tuple_cmp, cases_before, lt_from_before, not_lt_from_after, before-trans, before-irreflexive, before-not_before}
+use Rattle.rv_order.proofs.TupleOrder.{tuple_cmp, cases-before, lt-from-before, not-lt-from-after, before-trans, before-irreflexive, before-not_before}
 
 -- a tuple does not stand among tuples that it is before
 count-before : (t : Tuple) (us : List Tuple) → AllByRecursion (IsBefore t) us → count t us ≡ 0
@@ -20,8 +18,8 @@ count-before t us h = elim (eq-zero-or-pos (count t us)) [
 ]
 
 -- what is before the first tuple of a list in order is before all of its tuples
-after_first : (t u : Tuple) (us : List Tuple) → IsBefore t u → IsInOrder (u ∷ us) → AllByRecursion (IsBefore t) (u ∷ us)
-after_first t u us h o = (h, all-of (IsBefore t) us (λ v m. before-not_before t u v h (all-in (λ v. ¬ IsBefore v u) us o.0 v m)))
+after-first : (t u : Tuple) (us : List Tuple) → IsBefore t u → IsInOrder (u ∷ us) → AllByRecursion (IsBefore t) (u ∷ us)
+after-first t u us h o = (h, all-of (IsBefore t) us (λ v m. before-not_before t u v h (all-in (λ v. ¬ IsBefore v u) us o.0 v m)))
 
 pub differing-sym : (xs ys : List Tuple) (t : Tuple) → IsLeastDiffering xs ys t → IsLeastDiffering ys xs t
 differing-sym xs ys t d = record {
@@ -32,7 +30,7 @@ differing-sym xs ys t d = record {
 differing-front : (t : Tuple) (ts us : List Tuple) → IsInOrder (t ∷ ts) → AllByRecursion (IsBefore t) us → IsLeastDiffering (t ∷ ts) us t
 differing-front t ts us o h = record {
   differs = λ e. absurd (omega (arith, in-count t (t ∷ ts) (inl refl), e, count-before t us h));
-  least = λ u b. count-before u (t ∷ ts) (after_first u t ts b o) ∙ sym (count-before u us (all-of (IsBefore u) us (λ v m. before-trans u t v b (all-in (IsBefore t) us h v m))));
+  least = λ u b. count-before u (t ∷ ts) (after-first u t ts b o) ∙ sym (count-before u us (all-of (IsBefore u) us (λ v m. before-trans u t v b (all-in (IsBefore t) us h v m))));
 }
 
 differing-cons : (x : Tuple) (xs ys : List Tuple) (t : Tuple) → IsLeastDiffering xs ys t → IsLeastDiffering (x ∷ xs) (x ∷ ys) t
@@ -46,7 +44,7 @@ pub differing-at : (i : ℕ) (xs ys : List Tuple) (t : Tuple) → IsInOrder xs �
 differing-at i [] ys t ox oy same hx hy is end = absurd (omega arith)
 differing-at zero (x ∷ xs) [] t ox oy same hx hy is end = subst (λ x. IsInOrder (x ∷ xs) → IsLeastDiffering (x ∷ xs) [] t) is (λ o. differing-front t xs [] o tt) ox
 differing-at zero (x ∷ xs) (y ∷ ys) t ox oy same hx hy is (inl end) = absurd (omega arith)
-differing-at zero (x ∷ xs) (y ∷ ys) t ox oy same hx hy is (inr later) = subst (λ x. IsInOrder (x ∷ xs) → IsLeastDiffering (x ∷ xs) (y ∷ ys) t) is (λ o. differing-front t xs (y ∷ ys) o (after_first t y ys later oy)) ox
+differing-at zero (x ∷ xs) (y ∷ ys) t ox oy same hx hy is (inr later) = subst (λ x. IsInOrder (x ∷ xs) → IsLeastDiffering (x ∷ xs) (y ∷ ys) t) is (λ o. differing-front t xs (y ∷ ys) o (after-first t y ys later oy)) ox
 differing-at (suc i) (x ∷ xs) [] t ox oy same hx hy is end = absurd (omega arith)
 differing-at (suc i) (x ∷ xs) (y ∷ ys) t ox oy same hx hy is end =
     let first : x ≡ y = same 0 x (omega arith) in
@@ -55,15 +53,15 @@ differing-at (suc i) (x ∷ xs) (y ∷ ys) t ox oy same hx hy is end =
 
 -- the lesser of the first two tuples that differ
 pub differing-inside : (i : ℕ) (xs ys : List Tuple) (r w : Tuple) → IsInOrder xs → IsInOrder ys → ((k : ℕ) (d : Tuple) → k < i → get_or xs k d ≡ get_or ys k d) → i < length xs → i < length ys → ((d : Tuple) → r ≡ get_or xs i d) → ((d : Tuple) → w ≡ get_or ys i d) → r ≢ w → IsLeastDiffering xs ys (cond (is_lt (tuple_cmp w r)) w r)
-differing-inside i xs ys r w ox oy same hx hy is_r is_w apart = elim (cases_before r w) [
+differing-inside i xs ys r w ox oy same hx hy is_r is_w apart = elim (cases-before r w) [
   | inl e ↦ absurd (apart e)
   | inr (inl b) ↦
       let later : IsBefore r (get_or ys i r) = subst (λ z. IsBefore r z) (is_w r) b in
-      subst (λ z. IsLeastDiffering xs ys (cond z w r)) (sym (not_lt_from_after w r b))
+      subst (λ z. IsLeastDiffering xs ys (cond z w r)) (sym (not-lt-from-after w r b))
       (differing-at i xs ys r ox oy same hx (omega arith) (is_r r) (inr later))
   | inr (inr b) ↦
       let later : IsBefore w (get_or xs i w) = subst (λ z. IsBefore w z) (is_r w) b in
-      subst (λ z. IsLeastDiffering xs ys (cond z w r)) (sym (lt_from_before w r b))
+      subst (λ z. IsLeastDiffering xs ys (cond z w r)) (sym (lt-from-before w r b))
       (differing-sym ys xs w (differing-at i ys xs w oy ox (λ k d h. sym (same k d h)) hy (omega arith) (is_w w) (inr later)))
 ]
 

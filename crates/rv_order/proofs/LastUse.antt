@@ -3,10 +3,8 @@ use Rattle.std.proofs.Common.{◌≡◌, ◌⊎◌, ℕ, ◌<◌, ◌≤◌, max
 use Rattle.std.proofs.lemmas.Bool.{cases_lt, and_from, eqb-true, eq-eqb, lt-ltb, ltb-true}
 use Rattle.rv_base.specs.declared.record.Tuple.{Tuple}
 use Rattle.rv_spec.specs.Trace.{last_use}
-use Rattle.rv_rules.proofs.Lemmas.{left_true, right_true}
+use Rattle.rv_rules.proofs.Lemmas.{left-true, right-true, in-map, in-map-back}
 use Rattle.rv_rules.specs.Membership.{In}
-use Rattle.rv_rules.proofs.Lemmas.{in-map}
-use Rattle.rv_rules.proofs.Lemmas.{in-map-back}
 
 fold-start : (a : ℕ) (xs : List ℕ) → a ≤ fold max a xs
 fold-start a [] = omega arith
@@ -57,7 +55,7 @@ last_use-in ts c t = elim (fold-in 0 (map (λ w. w.time) (filter (is_before c t)
       let used = in-map-back (λ w. w.time) (last_use ts c t) (filter (is_before c t) ts) m in
       let w : Tuple = used.0 in
       let back = in-filter-back (is_before c t) w ts used.1 in
-      inr (w, back.0, eqb-true w.cell c (left_true (w.cell == c) (nat_lt w.time t) back.1), sym used.2, ltb-true w.time t (right_true (w.cell == c) (nat_lt w.time t) back.1))
+      inr (w, back.0, eqb-true w.cell c (left-true (w.cell == c) (nat_lt w.time t) back.1), sym used.2, ltb-true w.time t (right-true (w.cell == c) (nat_lt w.time t) back.1))
 ]
 
 -- it is before the time

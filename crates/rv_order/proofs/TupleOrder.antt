@@ -23,15 +23,15 @@ by_parts-before c o stays less equal t u (inr h) = ap (λ p. ordering_then p (or
     rest (inl k) = ap (λ p. ordering_then p (c t.time u.time)) (less t.value u.value k) ∙ stays (c t.time u.time)
     rest (inr k) = ap (λ p. ordering_then p (c t.time u.time)) (equal t.value u.value k.0) ∙ less t.time u.time k.1
 
-pub lt_from_before : (t u : Tuple) → IsBefore t u → is_lt (tuple_cmp t u) ≡ true
-lt_from_before t u h = ap is_lt (by_parts-before nat_cmp Less (λ p. refl) (λ a b k. sym (nat_cmp_is a b Less k)) (λ a b k. sym (nat_cmp_is a b Equal k)) t u h)
+pub lt-from-before : (t u : Tuple) → IsBefore t u → is_lt (tuple_cmp t u) ≡ true
+lt-from-before t u h = ap is_lt (by_parts-before nat_cmp Less (λ p. refl) (λ a b k. sym (nat_cmp_is a b Less k)) (λ a b k. sym (nat_cmp_is a b Equal k)) t u h)
 
-pub not_lt_from_after : (t u : Tuple) → IsBefore u t → is_lt (tuple_cmp t u) ≡ false
-not_lt_from_after t u h = ap is_lt (by_parts-before (λ a b. nat_cmp b a) Greater (λ p. refl) (λ a b k. sym (nat_cmp_is b a Greater k)) (λ a b k. sym (nat_cmp_is b a Equal (sym k))) u t h)
+pub not-lt-from-after : (t u : Tuple) → IsBefore u t → is_lt (tuple_cmp t u) ≡ false
+not-lt-from-after t u h = ap is_lt (by_parts-before (λ a b. nat_cmp b a) Greater (λ p. refl) (λ a b k. sym (nat_cmp_is b a Greater k)) (λ a b k. sym (nat_cmp_is b a Equal (sym k))) u t h)
 
 -- one of two tuples is before the other, or they are equal
-pub cases_before : (t u : Tuple) → (t ≡ u) ⊎ (IsBefore t u ⊎ IsBefore u t)
-cases_before t u = elim (cases_order t.cell u.cell) [
+pub cases-before : (t u : Tuple) → (t ≡ u) ⊎ (IsBefore t u ⊎ IsBefore u t)
+cases-before t u = elim (cases_order t.cell u.cell) [
   | inl c ↦ elim (cases_order t.value u.value) [
     | inl v ↦ elim (cases_order t.time u.time) [
       | inl w ↦ inl (λ i. record { cell = c i; value = v i; time = w i })
@@ -63,7 +63,7 @@ before-irreflexive t (inr h) = elim h.1 [ inl k ↦ omega arith | inr k ↦ omeg
 
 -- what is before a tuple is before each tuple that isn't before that one
 pub before-not_before : (t u v : Tuple) → IsBefore t u → ¬ IsBefore v u → IsBefore t v
-before-not_before t u v h k = elim (cases_before v u) [
+before-not_before t u v h k = elim (cases-before v u) [
   | inl e ↦ subst (λ w. IsBefore t w) (sym e) h
   | inr (inl b) ↦ absurd (k b)
   | inr (inr b) ↦ before-trans t u v h b
@@ -76,16 +76,16 @@ unequal t u h e =
     true≢false (sym h ∙ ap not same)
 
 -- neighbours in order make a list in order
-pub in_order : (ts : List Tuple) → ((k : ℕ) (d : Tuple) → suc k < length ts → ¬ IsBefore (get_or ts (suc k) d) (get_or ts k d)) → IsInOrder ts
-in_order [] h = tt
-in_order (t ∷ []) h = (tt, tt)
-in_order (t ∷ u ∷ us) h =
-    let rest : IsInOrder (u ∷ us) = in_order (u ∷ us) (λ k d lt. h (suc k) d (omega arith)) in
+pub in-order : (ts : List Tuple) → ((k : ℕ) (d : Tuple) → suc k < length ts → ¬ IsBefore (get_or ts (suc k) d) (get_or ts k d)) → IsInOrder ts
+in-order [] h = tt
+in-order (t ∷ []) h = (tt, tt)
+in-order (t ∷ u ∷ us) h =
+    let rest : IsInOrder (u ∷ us) = in-order (u ∷ us) (λ k d lt. h (suc k) d (omega arith)) in
     let head : ¬ IsBefore u t = h 0 t (omega arith) in
     ((head, all-of (λ v. ¬ IsBefore v t) us (λ v m b. all-in (λ v. ¬ IsBefore v u) us rest.0 v m (before-not_before v t u b head))), rest)
 
 -- what `sort_unstable` gives
-pub in_order_from_sorted : (ts : List Tuple) → ((k : ℕ) (d : Tuple) → 0 ≤ k → k + 1 < length ts → is_lt (tuple_cmp (get_or ts (k + 1) d) (get_or ts k d)) ≡ false) → IsInOrder ts
-in_order_from_sorted ts h = in_order ts (λ k d lt b.
+pub in-order-from-sorted : (ts : List Tuple) → ((k : ℕ) (d : Tuple) → 0 ≤ k → k + 1 < length ts → is_lt (tuple_cmp (get_or ts (k + 1) d) (get_or ts k d)) ≡ false) → IsInOrder ts
+in-order-from-sorted ts h = in-order ts (λ k d lt b.
     let sorted : is_lt (tuple_cmp (get_or ts (suc k) d) (get_or ts k d)) ≡ false = subst (λ n. is_lt (tuple_cmp (get_or ts n d) (get_or ts k d)) ≡ false) (add-one k) (h k d (omega arith) (omega arith)) in
-    true≢false (sym (lt_from_before (get_or ts (suc k) d) (get_or ts k d) b) ∙ sorted))
+    true≢false (sym (lt-from-before (get_or ts (suc k) d) (get_or ts k d) b) ∙ sorted))

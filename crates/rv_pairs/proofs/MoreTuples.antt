@@ -7,18 +7,18 @@ use Rattle.std.proofs.lemmas.List.Sums.{sum_by-append, sum_by-cons, sum_by-set}
 use Rattle.rv_base.specs.declared.record.Tuple.{Tuple}
 
 -- the tuple that waits and one more
-pub two_more : (ts hashed : List Tuple) (last : Option Tuple) (u t : Tuple) → last ≡ Some u → ts ≡ hashed ++ option_to_list last
+pub two-more : (ts hashed : List Tuple) (last : Option Tuple) (u t : Tuple) → last ≡ Some u → ts ≡ hashed ++ option_to_list last
     → ts ++ t ∷ [] ≡ (hashed ++ u ∷ t ∷ []) ++ []
-two_more ts hashed last u t is list_is =
+two-more ts hashed last u t is list_is =
     (λ i. list_is i ++ t ∷ [])
     ∙ (λ i. (hashed ++ option_to_list (is i)) ++ t ∷ [])
     ∙ append_assoc hashed (u ∷ []) (t ∷ [])
     ∙ sym (append-nil (hashed ++ u ∷ t ∷ []))
 
 -- a tuple more on both sides
-pub one_more : (f : Tuple → ℕ) (xs ys : List Tuple) (t : Tuple) (rest : ℕ) → sum_by f xs ≡ sum_by f ys + rest
+pub one-more : (f : Tuple → ℕ) (xs ys : List Tuple) (t : Tuple) (rest : ℕ) → sum_by f xs ≡ sum_by f ys + rest
     → sum_by f (xs ++ t ∷ []) ≡ sum_by f (ys ++ t ∷ []) + rest
-one_more f xs ys t rest before = omega (arith, before, sum_by-append f xs (t ∷ []), sum_by-append f ys (t ∷ []))
+one-more f xs ys t rest before = omega (arith, before, sum_by-append f xs (t ∷ []), sum_by-append f ys (t ∷ []))
 
 one : (f : Tuple → ℕ) (ts : List Tuple) (t : Tuple) → sum_by f (ts ++ t ∷ []) ≡ sum_by f ts + f t
 one f ts t = sum_by-append f ts (t ∷ []) ∙ ap (λ n. sum_by f ts + n) (zero-add (f t))
@@ -28,33 +28,33 @@ abbrev waiting_number : (Tuple → ℕ) → Option Tuple → ℕ
 waiting_number f None = 0
 waiting_number f (Some t) = f t
 
-waiting_sum : (f : Tuple → ℕ) (table : List (Option Tuple)) → sum_by f (flat_map option_to_list table) ≡ sum_by (waiting_number f) table
-waiting_sum f [] = refl
-waiting_sum f (None ∷ table) = waiting_sum f table ∙ sym (zero-add (sum_by (waiting_number f) table)) ∙ sym (sum_by-cons (waiting_number f) None table)
-waiting_sum f (Some t ∷ table) = sum_by-cons f t (flat_map option_to_list table) ∙ ap (λ n. f t + n) (waiting_sum f table) ∙ sym (sum_by-cons (waiting_number f) (Some t) table)
+waiting-sum : (f : Tuple → ℕ) (table : List (Option Tuple)) → sum_by f (flat_map option_to_list table) ≡ sum_by (waiting_number f) table
+waiting-sum f [] = refl
+waiting-sum f (None ∷ table) = waiting-sum f table ∙ sym (zero-add (sum_by (waiting_number f) table)) ∙ sym (sum_by-cons (waiting_number f) None table)
+waiting-sum f (Some t ∷ table) = sum_by-cons f t (flat_map option_to_list table) ∙ ap (λ n. f t + n) (waiting-sum f table) ∙ sym (sum_by-cons (waiting_number f) (Some t) table)
 
 -- what waits in the table, where one place gets another tuple
 replaced : (f : Tuple → ℕ) (table : List (Option Tuple)) (place : ℕ) (now last : Option Tuple) (t : Tuple) → place < length table → now ≡ get_or table place now → now ≡ last
     → sum_by f (flat_map option_to_list (set table place (Some t))) + waiting_number f last ≡ sum_by f (flat_map option_to_list table) + f t
 replaced f table place now last t inside here is =
-    (λ i. waiting_sum f (set table place (Some t)) i + waiting_number f ((sym is ∙ here) i))
+    (λ i. waiting-sum f (set table place (Some t)) i + waiting_number f ((sym is ∙ here) i))
     ∙ sum_by-set (waiting_number f) table place (Some t) now inside
-    ∙ ap (λ n. n + f t) (sym (waiting_sum f table))
+    ∙ ap (λ n. n + f t) (sym (waiting-sum f table))
 
 -- a tuple written, where none waits
-pub over_none : (f : Tuple → ℕ) (ws : List Tuple) (rest : ℕ) (table : List (Option Tuple)) (place : ℕ) (now : Option Tuple) (t : Tuple) → place < length table → now ≡ get_or table place now → now ≡ None
+pub over-none : (f : Tuple → ℕ) (ws : List Tuple) (rest : ℕ) (table : List (Option Tuple)) (place : ℕ) (now : Option Tuple) (t : Tuple) → place < length table → now ≡ get_or table place now → now ≡ None
     → sum_by f ws ≡ rest + sum_by f (flat_map option_to_list table)
     → sum_by f (ws ++ t ∷ []) ≡ rest + sum_by f (flat_map option_to_list (set table place (Some t)))
-over_none f ws rest table place now t inside here is before = omega (arith, before, one f ws t, replaced f table place now None t inside here is)
+over-none f ws rest table place now t inside here is before = omega (arith, before, one f ws t, replaced f table place now None t inside here is)
 
 -- a tuple written, where one waits that goes to a sum
-pub over_some : (f : Tuple → ℕ) (ws xs : List Tuple) (rest : ℕ) (table : List (Option Tuple)) (place : ℕ) (now : Option Tuple) (last t : Tuple) → place < length table → now ≡ get_or table place now → now ≡ Some last
+pub over-some : (f : Tuple → ℕ) (ws xs : List Tuple) (rest : ℕ) (table : List (Option Tuple)) (place : ℕ) (now : Option Tuple) (last t : Tuple) → place < length table → now ≡ get_or table place now → now ≡ Some last
     → sum_by f ws ≡ sum_by f xs + rest + sum_by f (flat_map option_to_list table)
     → sum_by f (ws ++ t ∷ []) ≡ sum_by f (xs ++ last ∷ []) + rest + sum_by f (flat_map option_to_list (set table place (Some t)))
-over_some f ws xs rest table place now last t inside here is before =
+over-some f ws xs rest table place now last t inside here is before =
     omega (arith, before, one f ws t, one f xs last, replaced f table place now (Some last) t inside here is)
 
 -- no tuple waits in an empty table
-pub nothing_waits : (n : ℕ) → flat_map (option_to_list {X = Tuple}) (replicate n None) ≡ []
-nothing_waits zero = refl
-nothing_waits (suc n) = nothing_waits n
+pub nothing-waits : (n : ℕ) → flat_map (option_to_list {X = Tuple}) (replicate n None) ≡ []
+nothing-waits zero = refl
+nothing-waits (suc n) = nothing-waits n

@@ -17,11 +17,11 @@ use Rattle.rv_spec.specs.Record.{Shard, shard_rows, row_length, rows_length}
 use Rattle.rv_rules.specs.Checks.{Check, unless_broken, ◌>>=◌}
 use Rattle.rv_rules.specs.RowRules.{row_checks, place_after}
 use Rattle.rv_rules.specs.Reading.{Reading, head_of, access_of, row_of, row_form, row_size, digest_of, last_of, same_place, read_row, read_rows, read_shard}
-use Rattle.rv_row.proofs.Lemmas.{all_hold}
-use Rattle.rv_file.proofs.Lemmas.{bind_ok, unless_ok, ok_is}
+use Rattle.rv_row.proofs.Lemmas.{all-hold}
+use Rattle.rv_file.proofs.Lemmas.{bind-ok, unless-ok, ok-is}
 use Rattle.rv_rowcheck.specs.RowChecking.{IsPlace}
 use Rattle.rv_rowcheck.proofs.Lemmas.{next-place}
-use Rattle.rv_panel.proofs.Binding.{ends_hold}
+use Rattle.rv_panel.proofs.Binding.{ends-hold}
 
 length-row_of : (bytes : List ℕ) → row_length (row_of bytes) ≡ row_size bytes
 length-row_of bytes =
@@ -36,31 +36,31 @@ module _ (lanes : Lanes) (elf input : List ℕ) (h : Header) (output : List ℕ)
     pub left_is : x.left ≡ drop size bytes
     pub stands : IsPlace p input output → IsPlace x.place input output
 
-  behind_row : (i r : ℕ) (p : Place) (bytes : List ℕ) (x : Reading Row) → read_row true lanes elf input h output i r p bytes ≡ Ok x → Behind (row_length x.part) p bytes x
+  behind-row : (i r : ℕ) (p : Place) (bytes : List ℕ) (x : Reading Row) → read_row true lanes elf input h output i r p bytes ≡ Ok x → Behind (row_length x.part) p bytes x
   unfolding read_row
-  behind_row i r p bytes x e =
+  behind-row i r p bytes x e =
       let row = row_of bytes in
       let step = i * h.size + r in
       let rules = row_checks h.version row step p (last_of h step) input output in
       let made : Reading Row = record { part = row; place = place_after h.version row p input; left = drop (row_size bytes) bytes } in
-      let u = unless_ok i r (row_form bytes ++ rules) made x e in
+      let u = unless-ok i r (row_form bytes ++ rules) made x e in
       subst (λ (y : Reading Row). Behind (row_length y.part) p bytes y) u.1 (record {
         left_is = ap (λ n. drop n bytes) (sym (length-row_of bytes));
-        stands = next-place h.version row step p (last_of h step) input output (ends_hold (row_form bytes) rules u.0);
+        stands = next-place h.version row step p (last_of h step) input output (ends-hold (row_form bytes) rules u.0);
       })
 
-  behind_rows : (n i r : ℕ) (p : Place) (bytes : List ℕ) (x : Reading (List Row)) → read_rows true lanes elf input n h output i r p bytes ≡ Ok x → Behind (rows_length x.part) p bytes x
+  behind-rows : (n i r : ℕ) (p : Place) (bytes : List ℕ) (x : Reading (List Row)) → read_rows true lanes elf input n h output i r p bytes ≡ Ok x → Behind (rows_length x.part) p bytes x
   unfolding read_rows
-  behind_rows zero i r p bytes x e =
+  behind-rows zero i r p bytes x e =
       let none : Reading (List Row) = record { part = []; place = p; left = bytes } in
-      subst (λ (y : Reading (List Row)). Behind (rows_length y.part) p bytes y) (ok_is none x e) (record { left_is = refl; stands = λ s. s })
-  behind_rows (suc n) i r p bytes x e =
+      subst (λ (y : Reading (List Row)). Behind (rows_length y.part) p bytes y) (ok-is none x e) (record { left_is = refl; stands = λ s. s })
+  behind-rows (suc n) i r p bytes x e =
       let put : Reading Row → Reading (List Row) → Reading (List Row) = λ first others. record { part = first.part ∷ others.part; place = others.place; left = others.left } in
-      let a = bind_ok (read_row true lanes elf input h output i r p bytes) (λ first. read_rows true lanes elf input n h output i (r + 1) first.place first.left >>= λ others. Ok (put first others)) x e in
-      let one = behind_row i r p bytes a.0 a.1 in
-      let b = bind_ok (read_rows true lanes elf input n h output i (r + 1) a.0.place a.0.left) (λ others. Ok (put a.0 others)) x a.2 in
-      let more = behind_rows n i (r + 1) a.0.place a.0.left b.0 b.1 in
-      subst (λ (y : Reading (List Row)). Behind (rows_length y.part) p bytes y) (ok_is (put a.0 b.0) x b.2) (record {
+      let a = bind-ok (read_row true lanes elf input h output i r p bytes) (λ first. read_rows true lanes elf input n h output i (r + 1) first.place first.left >>= λ others. Ok (put first others)) x e in
+      let one = behind-row i r p bytes a.0 a.1 in
+      let b = bind-ok (read_rows true lanes elf input n h output i (r + 1) a.0.place a.0.left) (λ others. Ok (put a.0 others)) x a.2 in
+      let more = behind-rows n i (r + 1) a.0.place a.0.left b.0 b.1 in
+      subst (λ (y : Reading (List Row)). Behind (rows_length y.part) p bytes y) (ok-is (put a.0 b.0) x b.2) (record {
         left_is =
             more.left_is
             ∙ ap (λ (xs : List ℕ). drop (rows_length b.0.part) xs) one.left_is
@@ -100,9 +100,9 @@ module _ (lanes : Lanes) (elf input : List ℕ) (h : Header) (output : List ℕ)
   abbrev pub after_head : ℕ → Place → ShardHead → List ℕ → Result (Reading Shard) Refusal
   after_head i p head rest = read_rows true lanes elf input (shard_rows h.size h.steps i) h output i 0 p rest >>= closes i head
 
-  pub shard_read_is : (i : ℕ) (p : Place) (bytes : List ℕ) → shard_read i p bytes ≡ (unless_broken i 0 (head_checks i p bytes) (drop 32 bytes) >>= after_head i p (head_of bytes))
+  pub shard-read-is : (i : ℕ) (p : Place) (bytes : List ℕ) → shard_read i p bytes ≡ (unless_broken i 0 (head_checks i p bytes) (drop 32 bytes) >>= after_head i p (head_of bytes))
   unfolding read_shard
-  shard_read_is i p bytes = refl
+  shard-read-is i p bytes = refl
 
   -- A shard that was read: its head, the digests of its tuples, its end, and where the run stands behind it.
   pub record IsShardRead (i : ℕ) (p : Place) (bytes : List ℕ) (x : Reading Shard) : Type 0 where
@@ -112,18 +112,18 @@ module _ (lanes : Lanes) (elf input : List ℕ) (h : Header) (output : List ℕ)
     pub left_is : x.left ≡ drop (288 + (head_of bytes).bytes) bytes
     pub stands : IsPlace p input output → IsPlace x.place input output
 
-  pub is_shard_read : (i : ℕ) (p : Place) (bytes : List ℕ) (x : Reading Shard) → shard_read i p bytes ≡ Ok x → IsShardRead i p bytes x
-  is_shard_read i p bytes x e =
+  pub is-shard-read : (i : ℕ) (p : Place) (bytes : List ℕ) (x : Reading Shard) → shard_read i p bytes ≡ Ok x → IsShardRead i p bytes x
+  is-shard-read i p bytes x e =
       let n = shard_rows h.size h.steps i in
       let head = head_of bytes in
-      let a = bind_ok (unless_broken i 0 (head_checks i p bytes) (drop 32 bytes)) (after_head i p head) x (sym (shard_read_is i p bytes) ∙ e) in
-      let u = unless_ok i 0 (head_checks i p bytes) (drop 32 bytes) a.0 a.1 in
-      let b = bind_ok (read_rows true lanes elf input n h output i 0 p a.0) (closes i head) x a.2 in
-      let rows = behind_rows n i 0 p a.0 b.0 b.1 in
-      let v = unless_ok i n (end_checks i head b.0) (made head b.0) x b.2 in
-      let d1 = all_hold (20, rows_length b.0.part == head.bytes) ((1, nat_le 256 (length b.0.left)) ∷ (21, digests_hold i b.0) ∷ []) v.0 in
-      let d2 = all_hold (1, nat_le 256 (length b.0.left)) ((21, digests_hold i b.0) ∷ []) d1.1 in
-      let d3 = all_hold (21, digests_hold i b.0) [] d2.1 in
+      let a = bind-ok (unless_broken i 0 (head_checks i p bytes) (drop 32 bytes)) (after_head i p head) x (sym (shard-read-is i p bytes) ∙ e) in
+      let u = unless-ok i 0 (head_checks i p bytes) (drop 32 bytes) a.0 a.1 in
+      let b = bind-ok (read_rows true lanes elf input n h output i 0 p a.0) (closes i head) x a.2 in
+      let rows = behind-rows n i 0 p a.0 b.0 b.1 in
+      let v = unless-ok i n (end_checks i head b.0) (made head b.0) x b.2 in
+      let d1 = all-hold (20, rows_length b.0.part == head.bytes) ((1, nat_le 256 (length b.0.left)) ∷ (21, digests_hold i b.0) ∷ []) v.0 in
+      let d2 = all-hold (1, nat_le 256 (length b.0.left)) ((21, digests_hold i b.0) ∷ []) d1.1 in
+      let d3 = all-hold (21, digests_hold i b.0) [] d2.1 in
       let read = digest lanes (map tuple_read (events (i * h.size) b.0.part)) in
       let written = digest lanes (map tuple_written (events (i * h.size) b.0.part)) in
       let both = and_parts (bytes_eq (digest_of b.0.left) read) (bytes_eq (digest_of (drop 128 b.0.left)) written) d3.0 in

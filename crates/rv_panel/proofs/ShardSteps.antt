@@ -16,16 +16,16 @@ use Rattle.rv_reading.specs.Machine.{Phase, event_sums, shards_events, told}
 use Rattle.rv_reading.specs.Machine.Phase.{Shards}
 use Rattle.rv_reading.specs.Machine.Extent.{WholeFile}
 use Rattle.rv_reading.specs.Parts.{runs}
-use Rattle.rv_reading.proofs.Lemmas.{shards_are_read, bind_assoc, bind_same}
-use Rattle.rv_panel.proofs.ShardParts.{shard_read, head_holds, after_head, shard_read_is}
+use Rattle.rv_reading.proofs.Lemmas.{shards-are-read, bind-assoc, bind-same}
+use Rattle.rv_panel.proofs.ShardParts.{shard_read, head_holds, after_head, shard-read-is}
 
-and_false : (b : Bool) → (b && false) ≡ false
-and_false true = refl
-and_false false = refl
+and-false : (b : Bool) → (b && false) ≡ false
+and-false true = refl
+and-false false = refl
 
 -- a head states this place
-pub place_stated : (head : ShardHead) (p : Place) → same_place head p ≡ true → record { pc = head.pc; input = head.input; output = head.output } ≡ p
-place_stated head p e =
+pub place-stated : (head : ShardHead) (p : Place) → same_place head p ≡ true → record { pc = head.pc; input = head.input; output = head.output } ≡ p
+place-stated head p e =
     let two = and_parts (head.pc == p.pc && head.input == p.input) (head.output == p.output) e in
     let one = and_parts (head.pc == p.pc) (head.input == p.input) two.0 in
     let pc = eqb-true head.pc p.pc one.0 in
@@ -44,10 +44,10 @@ module _ (lanes : Lanes) (elf input : List ℕ) (h : Header) (output : List ℕ)
   abbrev pub shard_events : ℕ → Reading Shard → List Event
   shard_events i x = events (i * h.size) x.part.rows
 
-  pub one_shard : (n i : ℕ) (es : List Event) (p : Place) (bytes : List ℕ)
+  pub one-shard : (n i : ℕ) (es : List Event) (p : Place) (bytes : List ℕ)
       → from (suc n) i p es bytes ≡ (shard_read lanes elf input h output i p bytes >>= λ x. from n (i + 1) x.place (es ++ shard_events i x) x.left)
   unfolding read_shards
-  one_shard n i es p bytes =
+  one-shard n i es p bytes =
       let read = shard_read lanes elf input h output i p bytes in
       let others : Reading Shard → Result (Reading (List Shard)) Refusal = λ x. read_shards true lanes elf input n h output (i + 1) x.place x.left in
       let put : Reading Shard → Reading (List Shard) → Reading (List Shard) = λ x o. record { part = x.part ∷ o.part; place = o.place; left = o.left } in
@@ -60,21 +60,21 @@ module _ (lanes : Lanes) (elf input : List ℕ) (h : Header) (output : List ℕ)
       let list = sym (append_assoc es (shard_events i x) (shards_events h (i + 1) o.part)) in
       λ t. run (Shards zero (number t) o.place (event_sums true lanes (list t))) o.left in
       let inner : (x : Reading Shard) → (whole x >>= ends) ≡ next x = λ x.
-      bind_assoc (others x) (λ o. Ok (put x o)) ends
-      ∙ bind_same (others x) (λ o. ends (put x o)) (ends_next x) (λ o e. same x o)
-      ∙ sym (shards_are_read true lanes elf input h output WholeFile n (i + 1) (es ++ shard_events i x) x.place x.left) in
-      shards_are_read true lanes elf input h output WholeFile (suc n) i es p bytes
-      ∙ bind_assoc read whole ends
-      ∙ bind_same read (λ x. whole x >>= ends) next (λ x e. inner x)
+      bind-assoc (others x) (λ o. Ok (put x o)) ends
+      ∙ bind-same (others x) (λ o. ends (put x o)) (ends_next x) (λ o e. same x o)
+      ∙ sym (shards-are-read true lanes elf input h output WholeFile n (i + 1) (es ++ shard_events i x) x.place x.left) in
+      shards-are-read true lanes elf input h output WholeFile (suc n) i es p bytes
+      ∙ bind-assoc read whole ends
+      ∙ bind-same read (λ x. whole x >>= ends) next (λ x e. inner x)
 
   abbrev refused : ℕ → ℕ → Refusal
   refused i rule = record { shard = i; row = 0; rule = rule }
 
-  pub no_head : (i : ℕ) (p : Place) (bytes : List ℕ) → length bytes < 32 → shard_read lanes elf input h output i p bytes ≡ Err (refused i 1)
-  no_head i p bytes lt =
+  pub no-head : (i : ℕ) (p : Place) (bytes : List ℕ) → length bytes < 32 → shard_read lanes elf input h output i p bytes ≡ Err (refused i 1)
+  no-head i p bytes lt =
       let rest = drop 32 bytes in
       let next = after_head lanes elf input h output i p (head_of bytes) in
-      shard_read_is lanes elf input h output i p bytes
+      shard-read-is lanes elf input h output i p bytes
       ∙ ap (λ b. unless_broken i 0 ((1, b) ∷ (9, head_holds lanes elf input h output i p (head_of bytes)) ∷ []) rest >>= next) (lt-leb 32 (length bytes) lt)
 
   pub displaced : (i : ℕ) (p : Place) (bytes : List ℕ) → 32 ≤ length bytes → same_place (head_of bytes) p ≡ false → shard_read lanes elf input h output i p bytes ≡ Err (refused i 9)
@@ -83,8 +83,8 @@ module _ (lanes : Lanes) (elf input : List ℕ) (h : Header) (output : List ℕ)
       let rest = drop 32 bytes in
       let next = after_head lanes elf input h output i p head in
       let counts = head.index == i && head.rows == shard_rows h.size h.steps i in
-      let fails : head_holds lanes elf input h output i p head ≡ false = ap (λ b. counts && b) other ∙ and_false counts in
-      shard_read_is lanes elf input h output i p bytes
+      let fails : head_holds lanes elf input h output i p head ≡ false = ap (λ b. counts && b) other ∙ and-false counts in
+      shard-read-is lanes elf input h output i p bytes
       ∙ ap (λ b. unless_broken i 0 ((1, b) ∷ (9, head_holds lanes elf input h output i p head) ∷ []) rest >>= next) (le-leb 32 (length bytes) le)
       ∙ ap (λ b. unless_broken i 0 ((9, b) ∷ []) rest >>= next) fails
 
@@ -94,8 +94,8 @@ module _ (lanes : Lanes) (elf input : List ℕ) (h : Header) (output : List ℕ)
   next_from n i es x = from n (i + 1) x.place (es ++ shard_events i x) x.left
 
   pub refuses : (n i : ℕ) (es : List Event) (p : Place) (bytes : List ℕ) (r : Refusal) → shard_read lanes elf input h output i p bytes ≡ Err r → told h (from (suc n) i p es bytes) ≡ Refuse r
-  refuses n i es p bytes r e = ap (told h) (one_shard n i es p bytes ∙ ap (λ s. s >>= next_from n i es) e)
+  refuses n i es p bytes r e = ap (told h) (one-shard n i es p bytes ∙ ap (λ s. s >>= next_from n i es) e)
 
-  pub goes_on : (n i : ℕ) (es : List Event) (p : Place) (bytes : List ℕ) (x : Reading Shard) → shard_read lanes elf input h output i p bytes ≡ Ok x
+  pub goes-on : (n i : ℕ) (es : List Event) (p : Place) (bytes : List ℕ) (x : Reading Shard) → shard_read lanes elf input h output i p bytes ≡ Ok x
       → told h (from (suc n) i p es bytes) ≡ told h (from n (i + 1) x.place (es ++ shard_events i x) x.left)
-  goes_on n i es p bytes x e = ap (told h) (one_shard n i es p bytes ∙ ap (λ s. s >>= next_from n i es) e)
+  goes-on n i es p bytes x e = ap (told h) (one-shard n i es p bytes ∙ ap (λ s. s >>= next_from n i es) e)

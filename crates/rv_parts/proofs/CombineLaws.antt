@@ -21,38 +21,38 @@ module _ (h : Header) (place : Place) (reads writes : List ℕ) (entries : ℕ) 
   abbrev answer : Summary → Option Refusal
   answer x = refused_at x.first place x.before x.refusal
 
-  pub part_then : (x : Summary) (xs : List Summary) → from (x ∷ xs) ≡ unless_refused (answer x) (behind x xs)
+  pub part-then : (x : Summary) (xs : List Summary) → from (x ∷ xs) ≡ unless_refused (answer x) (behind x xs)
   unfolding combined_from
-  part_then x xs = refl
+  part-then x xs = refl
 
-  pub no_part : from [] ≡ ended h place (record { reads = reads; writes = writes }) entries trailing
+  pub no-part : from [] ≡ ended h place (record { reads = reads; writes = writes }) entries trailing
   unfolding combined_from
-  no_part = refl
+  no-part = refl
 
-  pub part_refused : (x : Summary) (xs : List Summary) (r : Refusal) → answer x ≡ Some r → from (x ∷ xs) ≡ Refuse r
-  part_refused x xs r e = part_then x xs ∙ ap (λ o. unless_refused o (behind x xs)) e
+  pub part-refused : (x : Summary) (xs : List Summary) (r : Refusal) → answer x ≡ Some r → from (x ∷ xs) ≡ Refuse r
+  part-refused x xs r e = part-then x xs ∙ ap (λ o. unless_refused o (behind x xs)) e
 
-  pub part_goes : (x : Summary) (xs : List Summary) → answer x ≡ None → from (x ∷ xs) ≡ behind x xs
-  part_goes x xs e = part_then x xs ∙ ap (λ o. unless_refused o (behind x xs)) e
+  pub part-goes : (x : Summary) (xs : List Summary) → answer x ≡ None → from (x ∷ xs) ≡ behind x xs
+  part-goes x xs e = part-then x xs ∙ ap (λ o. unless_refused o (behind x xs)) e
 
   -- ---- at a place of a list
 
-  pub refused_here : (xs : List Summary) (i : ℕ) (d : Summary) (r : Refusal) → i < length xs → answer (get_or xs i d) ≡ Some r → from (drop i xs) ≡ Refuse r
-  refused_here xs i d r lt e = ap from (drop_more xs i d lt) ∙ part_refused (get_or xs i d) (drop (i + 1) xs) r e
+  pub refused-here : (xs : List Summary) (i : ℕ) (d : Summary) (r : Refusal) → i < length xs → answer (get_or xs i d) ≡ Some r → from (drop i xs) ≡ Refuse r
+  refused-here xs i d r lt e = ap from (drop_more xs i d lt) ∙ part-refused (get_or xs i d) (drop (i + 1) xs) r e
 
-  pub goes_here : (xs : List Summary) (i : ℕ) (d : Summary) (new_reads new_writes : List ℕ) → i < length xs → answer (get_or xs i d) ≡ None
+  pub goes-here : (xs : List Summary) (i : ℕ) (d : Summary) (new_reads new_writes : List ℕ) → i < length xs → answer (get_or xs i d) ≡ None
       → new_reads ≡ add_lanes reads (get_or xs i d).reads.lanes → new_writes ≡ add_lanes writes (get_or xs i d).writes.lanes
       → from (drop i xs) ≡ combined_from h (get_or xs i d).after new_reads new_writes (get_or xs i d).entries (get_or xs i d).trailing (drop (i + 1) xs)
-  goes_here xs i d new_reads new_writes lt e reads_are writes_are =
+  goes-here xs i d new_reads new_writes lt e reads_are writes_are =
       let x = get_or xs i d in
       let rs = sym reads_are in
       let ws = sym writes_are in
       ap from (drop_more xs i d lt)
-      ∙ part_goes x (drop (i + 1) xs) e
+      ∙ part-goes x (drop (i + 1) xs) e
       ∙ (λ t. combined_from h x.after (rs t) (ws t) x.entries x.trailing (drop (i + 1) xs))
 
-  pub end_here : (xs : List Summary) (i : ℕ) → length xs ≤ i → from (drop i xs) ≡ ended h place (record { reads = reads; writes = writes }) entries trailing
-  end_here xs i le = ap from (none xs i le) ∙ no_part
+  pub end-here : (xs : List Summary) (i : ℕ) → length xs ≤ i → from (drop i xs) ≡ ended h place (record { reads = reads; writes = writes }) entries trailing
+  end-here xs i le = ap from (none xs i le) ∙ no-part
     where
       none : (ys : List Summary) (k : ℕ) → length ys ≤ k → drop k ys ≡ []
       none [] k le = nothing k

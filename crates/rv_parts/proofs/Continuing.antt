@@ -13,26 +13,24 @@ use Rattle.rv_reading.specs.Machine.{Phase, Sums, event_sums, no_sums, shards_ev
 use Rattle.rv_reading.specs.Machine.Phase.{Shards, Rows, Entries}
 use Rattle.rv_reading.specs.Machine.Extent.{ShardsAlone}
 use Rattle.rv_reading.specs.Parts.{runs}
-use Rattle.rv_reading.proofs.Lemmas.{extents_are_streams, reads-goes, reads-step, shards_alone_are_read}
-use Rattle.rv_reading.proofs.StreamLaws.{state_refuses, state_tells}
-use Rattle.rv_file.proofs.Lemmas.{bind_ok, ok_is}
+use Rattle.rv_reading.proofs.Lemmas.{extents-are-streams, reads-goes, reads-step, shards-alone-are-read, state-refuses, state-tells, bind-assoc, bind-same}
+use Rattle.rv_file.proofs.Lemmas.{bind-ok, ok-is}
 use Rattle.rv_judge.specs.Subject.{Subject}
-use Rattle.rv_reading.proofs.Lemmas.{bind_assoc, bind_same}
-use Rattle.rv_panel.proofs.Lemmas.{shard_read, from, one_shard, shard_events}
+use Rattle.rv_panel.proofs.Lemmas.{shard_read, from, one-shard, shard_events}
 use Rattle.rv_parts.specs.Alone.{shards_at}
 
 -- a reading that ends at a phase where it ends whatever follows ends there with more bytes behind
 module _ {P : Type 0} (step : StepOf P) (is : IsStream P step) where
-  ends_in : (n : ℕ) (p q : P) (xs ys left : List ℕ) → length xs < n → ((zs : List ℕ) → step q zs ≡ Ok None) → reads step p xs ≡ Ok (q, left) → reads step p (xs ++ ys) ≡ Ok (q, left ++ ys)
-  ends_in zero p q xs ys left a ends e = absurd (omega (arith, a))
-  ends_in (suc n) p q xs ys left a ends e = go (step p xs) refl (sym (reads-step step is p xs) ∙ e) (ends_in n)
+  ends-in : (n : ℕ) (p q : P) (xs ys left : List ℕ) → length xs < n → ((zs : List ℕ) → step q zs ≡ Ok None) → reads step p xs ≡ Ok (q, left) → reads step p (xs ++ ys) ≡ Ok (q, left ++ ys)
+  ends-in zero p q xs ys left a ends e = absurd (omega (arith, a))
+  ends-in (suc n) p q xs ys left a ends e = go (step p xs) refl (sym (reads-step step is p xs) ∙ e) (ends-in n)
     where
       go : (f : Found P) → step p xs ≡ f → (f >>= onwards (reads step) (p, xs)) ≡ Ok (q, left)
           → ((r t : P) (zs us rest : List ℕ) → length zs < n → ((vs : List ℕ) → step t vs ≡ Ok None) → reads step r zs ≡ Ok (t, rest) → reads step r (zs ++ us) ≡ Ok (t, rest ++ us))
           → reads step p (xs ++ ys) ≡ Ok (q, left ++ ys)
       go (Err r) s f later = absurd cc
       go (Ok None) s f later =
-          let here : (p, xs) ≡ (q, left) = ok_is (p, xs) (q, left) f in
+          let here : (p, xs) ≡ (q, left) = ok-is (p, xs) (q, left) f in
           reads-step step is p (xs ++ ys)
           ∙ ap (λ (z : Found P). z >>= onwards (reads step) (p, xs ++ ys)) (ap (λ (x : P × List ℕ). step x.0 (xs ++ ys)) here ∙ ends (xs ++ ys))
           ∙ (λ t. Ok ((here t).0, (here t).1 ++ ys))
@@ -40,11 +38,11 @@ module _ {P : Type 0} (step : StepOf P) (is : IsStream P step) where
           let less = is.takes p x.0 xs x.1 s in
           reads-goes step is p x.0 xs x.1 ys s ∙ later x.0 q x.1 ys left (omega (arith, less, a)) ends f
 
-  pub ends_behind : (p q : P) (xs ys left : List ℕ) → ((zs : List ℕ) → step q zs ≡ Ok None) → reads step p xs ≡ Ok (q, left) → reads step p (xs ++ ys) ≡ Ok (q, left ++ ys)
-  ends_behind p q xs ys left ends e = ends_in (suc (length xs)) p q xs ys left (omega arith) ends e
+  pub ends-behind : (p q : P) (xs ys left : List ℕ) → ((zs : List ℕ) → step q zs ≡ Ok None) → reads step p xs ≡ Ok (q, left) → reads step p (xs ++ ys) ≡ Ok (q, left ++ ys)
+  ends-behind p q xs ys left ends e = ends-in (suc (length xs)) p q xs ys left (omega arith) ends e
 
-  pub refused_behind : (p : P) (xs ys : List ℕ) (r : Refusal) → reads step p xs ≡ Err r → ¬ (r.rule ≡ 1) → reads step p (xs ++ ys) ≡ Err r
-  refused_behind p xs ys r e not = (state_refuses step is p xs r (state_tells step is p xs r e not)).1 ys
+  pub refused-behind : (p : P) (xs ys : List ℕ) (r : Refusal) → reads step p xs ≡ Err r → ¬ (r.rule ≡ 1) → reads step p (xs ++ ys) ≡ Err r
+  refused-behind p xs ys r e not = (state-refuses step is p xs r (state-tells step is p xs r e not)).1 ys
 
 place_in : Phase → Place
 place_in (Shards n i p all) = p
@@ -56,9 +54,9 @@ sums_in (Shards n i p all) = all
 sums_in (Rows n r m i shard p all) = all
 sums_in (Entries n j before p all) = all
 
-was_refused : {A B : Type 0} (o : Result A Refusal) (f : A → B) (r : Refusal) → (o >>= λ x. Ok (f x)) ≡ Err r → o ≡ Err r
-was_refused (Ok x) f r e = absurd cc
-was_refused (Err t) f r e = let same : t ≡ r = cc in ap (λ z. Err z) same
+was-refused : {A B : Type 0} (o : Result A Refusal) (f : A → B) (r : Refusal) → (o >>= λ x. Ok (f x)) ≡ Err r → o ≡ Err r
+was-refused (Ok x) f r e = absurd cc
+was-refused (Err t) f r e = let same : t ≡ r = cc in ap (λ z. Err z) same
 
 module _ (lanes : Lanes) (s : Subject) where
   abbrev pub sums_of : ℕ → Reading (List Shard) → Sums
@@ -70,8 +68,8 @@ module _ (lanes : Lanes) (s : Subject) where
   abbrev ends_at : ℕ → ℕ → Reading (List Shard) → Phase × List ℕ
   ends_at n i y = (Shards zero (i + n) y.place (sums_of i y), y.left)
 
-  alone_is_read : (n i : ℕ) (p : Place) (bytes : List ℕ) → run_alone n i p bytes ≡ (shards_at lanes s n i p bytes >>= λ y. Ok (ends_at n i y))
-  alone_is_read n i p bytes = shards_alone_are_read true lanes s.elf s.input s.header s.output n i p bytes
+  alone-is-read : (n i : ℕ) (p : Place) (bytes : List ℕ) → run_alone n i p bytes ≡ (shards_at lanes s n i p bytes >>= λ y. Ok (ends_at n i y))
+  alone-is-read n i p bytes = shards-alone-are-read true lanes s.elf s.input s.header s.output n i p bytes
 
   -- What is read with more bytes behind: the same place and digests, and the bytes left are more.
   pub record IsMore (i : ℕ) (y z : Reading (List Shard)) (more : List ℕ) : Type 0 where
@@ -79,17 +77,17 @@ module _ (lanes : Lanes) (s : Subject) where
     pub sums : sums_of i z ≡ sums_of i y
     pub left : z.left ≡ y.left ++ more
 
-  pub read_more : (n i : ℕ) (p : Place) (bytes more : List ℕ) (y : Reading (List Shard)) → shards_at lanes s n i p bytes ≡ Ok y → (z : Reading (List Shard)) × (shards_at lanes s n i p (bytes ++ more) ≡ Ok z) × IsMore i y z more
+  pub read-more : (n i : ℕ) (p : Place) (bytes more : List ℕ) (y : Reading (List Shard)) → shards_at lanes s n i p bytes ≡ Ok y → (z : Reading (List Shard)) × (shards_at lanes s n i p (bytes ++ more) ≡ Ok z) × IsMore i y z more
   unfolding place_in sums_in
-  read_more n i p bytes more y e =
+  read-more n i p bytes more y e =
       let move = step_to true lanes s.elf s.input s.header s.output ShardsAlone in
-      let is = extents_are_streams true lanes s.elf s.input s.header s.output ShardsAlone in
+      let is = extents-are-streams true lanes s.elf s.input s.header s.output ShardsAlone in
       let end : Phase = Shards zero (i + n) y.place (sums_of i y) in
-      let here : run_alone n i p bytes ≡ Ok (end, y.left) = alone_is_read n i p bytes ∙ ap (λ (o : Result (Reading (List Shard)) Refusal). o >>= λ x. Ok (ends_at n i x)) e in
-      let on : run_alone n i p (bytes ++ more) ≡ Ok (end, y.left ++ more) = ends_behind move is (Shards n i p no_sums) end bytes more y.left (λ zs. refl) here in
-      let found = bind_ok (shards_at lanes s n i p (bytes ++ more)) (λ x. Ok (ends_at n i x)) (end, y.left ++ more) (sym (alone_is_read n i p (bytes ++ more)) ∙ on) in
+      let here : run_alone n i p bytes ≡ Ok (end, y.left) = alone-is-read n i p bytes ∙ ap (λ (o : Result (Reading (List Shard)) Refusal). o >>= λ x. Ok (ends_at n i x)) e in
+      let on : run_alone n i p (bytes ++ more) ≡ Ok (end, y.left ++ more) = ends-behind move is (Shards n i p no_sums) end bytes more y.left (λ zs. refl) here in
+      let found = bind-ok (shards_at lanes s n i p (bytes ++ more)) (λ x. Ok (ends_at n i x)) (end, y.left ++ more) (sym (alone-is-read n i p (bytes ++ more)) ∙ on) in
       let z = found.0 in
-      let same : ends_at n i z ≡ (end, y.left ++ more) = ok_is (ends_at n i z) (end, y.left ++ more) found.2 in (
+      let same : ends_at n i z ≡ (end, y.left ++ more) = ok-is (ends_at n i z) (end, y.left ++ more) found.2 in (
         z,
         found.1,
         record {
@@ -99,12 +97,12 @@ module _ (lanes : Lanes) (s : Subject) where
         },
       )
 
-  pub refused_more : (n i : ℕ) (p : Place) (bytes more : List ℕ) (r : Refusal) → shards_at lanes s n i p bytes ≡ Err r → ¬ (r.rule ≡ 1) → shards_at lanes s n i p (bytes ++ more) ≡ Err r
-  refused_more n i p bytes more r e not =
+  pub refused-more : (n i : ℕ) (p : Place) (bytes more : List ℕ) (r : Refusal) → shards_at lanes s n i p bytes ≡ Err r → ¬ (r.rule ≡ 1) → shards_at lanes s n i p (bytes ++ more) ≡ Err r
+  refused-more n i p bytes more r e not =
       let move = step_to true lanes s.elf s.input s.header s.output ShardsAlone in
-      let is = extents_are_streams true lanes s.elf s.input s.header s.output ShardsAlone in
-      let here : run_alone n i p bytes ≡ Err r = alone_is_read n i p bytes ∙ ap (λ (o : Result (Reading (List Shard)) Refusal). o >>= λ x. Ok (ends_at n i x)) e in
-      was_refused (shards_at lanes s n i p (bytes ++ more)) (ends_at n i) r (sym (alone_is_read n i p (bytes ++ more)) ∙ refused_behind move is (Shards n i p no_sums) bytes more r here not)
+      let is = extents-are-streams true lanes s.elf s.input s.header s.output ShardsAlone in
+      let here : run_alone n i p bytes ≡ Err r = alone-is-read n i p bytes ∙ ap (λ (o : Result (Reading (List Shard)) Refusal). o >>= λ x. Ok (ends_at n i x)) e in
+      was-refused (shards_at lanes s n i p (bytes ++ more)) (ends_at n i) r (sym (alone-is-read n i p (bytes ++ more)) ∙ refused-behind move is (Shards n i p no_sums) bytes more r here not)
 
   -- ---- so many shards of more
 
@@ -114,15 +112,15 @@ module _ (lanes : Lanes) (s : Subject) where
   abbrev on_behind : ℕ → ℕ → List Event → Reading (List Shard) → State Phase
   on_behind m j es y = on_from m j y.place es y.left
 
-  pub many_shards : (n m total i : ℕ) (es : List Event) (p : Place) (bytes : List ℕ) → total ≡ n + m
+  pub many-shards : (n m total i : ℕ) (es : List Event) (p : Place) (bytes : List ℕ) → total ≡ n + m
       → on_from total i p es bytes ≡ (shards_at lanes s n i p bytes >>= λ y. on_from m (i + n) y.place (es ++ shards_events s.header i y.part) y.left)
   unfolding read_shards
-  many_shards zero m total i es p bytes count =
+  many-shards zero m total i es p bytes count =
       let left : total ≡ m = omega (arith, count) in
       let number : i ≡ i + 0 = omega arith in
       let none = sym (append-nil es) in
       (λ t. on_from (left t) (number t) p (none t) bytes)
-  many_shards (suc n) m total i es p bytes count =
+  many-shards (suc n) m total i es p bytes count =
       let left : total ≡ suc (n + m) = omega (arith, count) in
       let read = shard_read lanes s.elf s.input s.header s.output i p bytes in
       let own : Reading Shard → List Event = λ x. shard_events lanes s.elf s.input s.header s.output i x in
@@ -135,10 +133,10 @@ module _ (lanes : Lanes) (s : Subject) where
       let list = append_assoc es (own x) (shards_events s.header (i + 1) o.part) in
       λ t. on_from m (number t) o.place (list t) o.left in
       let inner : (x : Reading Shard) → on_from (n + m) (i + 1) x.place (es ++ own x) x.left ≡ ((others x >>= λ o. Ok (put x o)) >>= end) = λ x.
-      many_shards n m (n + m) (i + 1) (es ++ own x) x.place x.left refl
-      ∙ bind_same (others x) (end_next x) (λ o. end (put x o)) (λ o _. same x o)
-      ∙ sym (bind_assoc (others x) (λ o. Ok (put x o)) end) in
+      many-shards n m (n + m) (i + 1) (es ++ own x) x.place x.left refl
+      ∙ bind-same (others x) (end_next x) (λ o. end (put x o)) (λ o _. same x o)
+      ∙ sym (bind-assoc (others x) (λ o. Ok (put x o)) end) in
       ap (λ k. on_from k i p es bytes) left
-      ∙ one_shard lanes s.elf s.input s.header s.output (n + m) i es p bytes
-      ∙ bind_same read (λ x. on_from (n + m) (i + 1) x.place (es ++ own x) x.left) (λ x. (others x >>= λ o. Ok (put x o)) >>= end) (λ x _. inner x)
-      ∙ sym (bind_assoc read (λ x. others x >>= λ o. Ok (put x o)) end)
+      ∙ one-shard lanes s.elf s.input s.header s.output (n + m) i es p bytes
+      ∙ bind-same read (λ x. on_from (n + m) (i + 1) x.place (es ++ own x) x.left) (λ x. (others x >>= λ o. Ok (put x o)) >>= end) (λ x _. inner x)
+      ∙ sym (bind-assoc read (λ x. others x >>= λ o. Ok (put x o)) end)

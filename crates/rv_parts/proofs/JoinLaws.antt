@@ -25,14 +25,13 @@ use Rattle.rv_reading.specs.Machine.Phase.{Shards}
 use Rattle.rv_reading.specs.Machine.Extent.{WholeFile}
 use Rattle.rv_reading.specs.Parts.{runs}
 use Rattle.rv_reading.specs.Judging.{IsFront}
-use Rattle.rv_reading.proofs.Lemmas.{verdict_behind_front, whole_file_is_read}
+use Rattle.rv_reading.proofs.Lemmas.{verdict-behind-front, whole-file-is-read, head-front}
 use Rattle.rv_elf.proofs.Lemmas.{image-is-program}
-use Rattle.rv_judge.proofs.Lemmas.{header_checked}
-use Rattle.rv_panel.proofs.Lemmas.{shards_within, displaced, from, no_head, place_stated, refuses, table_refused, table_taken}
+use Rattle.rv_judge.proofs.Lemmas.{header-checked}
+use Rattle.rv_panel.proofs.Lemmas.{shards-within, displaced, from, no-head, place-stated, refuses, table-refused, table-taken}
 use Rattle.rv_rules.specs.Verdict.{verdict}
-use Rattle.rv_reading.proofs.Lemmas.{head_front}
 use Rattle.rv_rowcheck.specs.RowChecking.{IsPlace}
-use Rattle.rv_file.proofs.Lemmas.{unless_holds, unless_ok}
+use Rattle.rv_file.proofs.Lemmas.{unless-holds, unless-ok}
 use Rattle.rv_judge.specs.Subject.{Subject}
 use Rattle.rv_judge.specs.Alone.{can_stand, read_table, stated}
 use Rattle.rv_panel.specs.Chaining.{verdict_from}
@@ -42,31 +41,31 @@ use Rattle.rv_parts.specs.Combining.{are_same, combined, combined_from, refused_
 use Rattle.rv_parts.specs.Joining.{AreFaultless, Part, SummariesTellVerdict, behind_front}
 use Rattle.rv_parts.specs.Cutting.{whole}
 use Rattle.rv_parts.specs.Summaries.{Told, ends_elsewhere, is_last, place_before, shards_and_table_tell, shards_tell, told_in}
-use Rattle.rv_parts.proofs.CombineLaws.{no_part, part_goes, part_refused}
-use Rattle.rv_parts.proofs.Continuing.{many_shards, read_more, refused_more}
-use Rattle.rv_parts.proofs.ShardsFollow.{all_alone_is, stands_through}
+use Rattle.rv_parts.proofs.CombineLaws.{no-part, part-goes, part-refused}
+use Rattle.rv_parts.proofs.Continuing.{many-shards, read-more, refused-more}
+use Rattle.rv_parts.proofs.ShardsFollow.{all-alone-is, stands-through}
 
 -- ---- the answer on a part
 
-answer_short : (i : ℕ) (place : Place) (o : Option Place) (r : Option Refusal) → o ≡ None → refused_at i place o r ≡ Some (record { shard = i; row = 0; rule = 1 })
-answer_short i place o r e = ap (λ z. refused_at i place z r) e
+answer-short : (i : ℕ) (place : Place) (o : Option Place) (r : Option Refusal) → o ≡ None → refused_at i place o r ≡ Some (record { shard = i; row = 0; rule = 1 })
+answer-short i place o r e = ap (λ z. refused_at i place z r) e
 
-answer_other : (i : ℕ) (place stated_at : Place) (o : Option Place) (r : Option Refusal) → o ≡ Some stated_at → are_same stated_at place ≡ false → refused_at i place o r ≡ Some (record { shard = i; row = 0; rule = 9 })
-answer_other i place stated_at o r e other = ap (λ z. refused_at i place z r) e ∙ ap (λ b. if b then r else Some (record { shard = i; row = 0; rule = 9 })) other
+answer-other : (i : ℕ) (place stated_at : Place) (o : Option Place) (r : Option Refusal) → o ≡ Some stated_at → are_same stated_at place ≡ false → refused_at i place o r ≡ Some (record { shard = i; row = 0; rule = 9 })
+answer-other i place stated_at o r e other = ap (λ z. refused_at i place z r) e ∙ ap (λ b. if b then r else Some (record { shard = i; row = 0; rule = 9 })) other
 
-answer_same : (i : ℕ) (place stated_at : Place) (o : Option Place) (r : Option Refusal) → o ≡ Some stated_at → are_same stated_at place ≡ true → refused_at i place o r ≡ r
-answer_same i place stated_at o r e same = ap (λ z. refused_at i place z r) e ∙ ap (λ b. if b then r else Some (record { shard = i; row = 0; rule = 9 })) same
+answer-same : (i : ℕ) (place stated_at : Place) (o : Option Place) (r : Option Refusal) → o ≡ Some stated_at → are_same stated_at place ≡ true → refused_at i place o r ≡ r
+answer-same i place stated_at o r e same = ap (λ z. refused_at i place z r) e ∙ ap (λ b. if b then r else Some (record { shard = i; row = 0; rule = 9 })) same
 
-stated_before : (body : List ℕ) → 32 ≤ length body → place_before body ≡ Some (stated body)
-stated_before body le = ap (λ b. if b then Some (stated body) else None) (le-leb 32 (length body) le)
+stated-before : (body : List ℕ) → 32 ≤ length body → place_before body ≡ Some (stated body)
+stated-before body le = ap (λ b. if b then Some (stated body) else None) (le-leb 32 (length body) le)
 
-none_before : (body : List ℕ) → length body < 32 → place_before body ≡ None
-none_before body lt = ap (λ b. if b then Some (stated body) else None) (lt-leb 32 (length body) lt)
+none-before : (body : List ℕ) → length body < 32 → place_before body ≡ None
+none-before body lt = ap (λ b. if b then Some (stated body) else None) (lt-leb 32 (length body) lt)
 
 -- what is not known to be false is true
-was_true : (b : Bool) → not b ≡ false → b ≡ true
-was_true true e = refl
-was_true false e = absurd cc
+was-true : (b : Bool) → not b ≡ false → b ≡ true
+was-true true e = refl
+was-true false e = absurd cc
 
 twice : (b : Bool) → not (not b) ≡ b
 twice true = refl
@@ -91,47 +90,47 @@ module _ (lanes : Lanes) (s : Subject) where
     pub there : stated body ≡ place
     pub answers : answer place x ≡ x.refusal
 
-  by_place : (i total n : ℕ) (place : Place) (es : List Event) (x : Summary) (body more : List ℕ) → total ≡ suc n → x.first ≡ i → x.before ≡ place_before body
+  by-place : (i total n : ℕ) (place : Place) (es : List Event) (x : Summary) (body more : List ℕ) → total ≡ suc n → x.first ≡ i → x.before ≡ place_before body
       → (length body < 32 → length (body ++ more) < 32) → IsRefused i place x total es (body ++ more) ⊎ IsStated i place x body
-  by_place i total n place es x body more count first before short = go (cases_lt (length body) 32)
+  by-place i total n place es x body more count first before short = go (cases_lt (length body) 32)
     where
       placed : 32 ≤ length body → (b : Bool) → are_same (stated body) place ≡ b → IsRefused i place x total es (body ++ more) ⊎ IsStated i place x body
       placed le true same = inr (record {
         long = le;
-        there = place_stated (head_of body) place same;
-        answers = answer_same x.first place (stated body) x.before x.refusal (before ∙ stated_before body le) same;
+        there = place-stated (head_of body) place same;
+        answers = answer-same x.first place (stated body) x.before x.refusal (before ∙ stated-before body le) same;
       })
       placed le false other = inl (record {
         r = record { shard = i; row = 0; rule = 9 };
-        answers = ap (λ k. refused_at k place x.before x.refusal) first ∙ answer_other i place (stated body) x.before x.refusal (before ∙ stated_before body le) other;
+        answers = ap (λ k. refused_at k place x.before x.refusal) first ∙ answer-other i place (stated body) x.before x.refusal (before ∙ stated-before body le) other;
         verdict =
             ap (λ k. on k i place es (body ++ more)) count
             ∙ refuses lanes s.elf s.input s.header s.output n i es place (body ++ more) (record { shard = i; row = 0; rule = 9 })
-            (displaced lanes s.elf s.input s.header s.output i place (body ++ more) (omega (arith, le, length-append body more)) (ap (λ (h : ShardHead). same_place h place) (head_front body more le) ∙ other));
+            (displaced lanes s.elf s.input s.header s.output i place (body ++ more) (omega (arith, le, length-append body more)) (ap (λ (h : ShardHead). same_place h place) (head-front body more le) ∙ other));
       })
 
       go : (length body < 32) ⊎ (32 ≤ length body) → IsRefused i place x total es (body ++ more) ⊎ IsStated i place x body
       go (inl lt) = inl (record {
         r = record { shard = i; row = 0; rule = 1 };
-        answers = ap (λ k. refused_at k place x.before x.refusal) first ∙ answer_short i place x.before x.refusal (before ∙ none_before body lt);
+        answers = ap (λ k. refused_at k place x.before x.refusal) first ∙ answer-short i place x.before x.refusal (before ∙ none-before body lt);
         verdict =
             ap (λ k. on k i place es (body ++ more)) count
-            ∙ refuses lanes s.elf s.input s.header s.output n i es place (body ++ more) (record { shard = i; row = 0; rule = 1 }) (no_head lanes s.elf s.input s.header s.output i place (body ++ more) (short lt));
+            ∙ refuses lanes s.elf s.input s.header s.output n i es place (body ++ more) (record { shard = i; row = 0; rule = 1 }) (no-head lanes s.elf s.input s.header s.output i place (body ++ more) (short lt));
       })
       go (inr le) = placed le (are_same (stated body) place) refl
 
   -- so many shards that are refused
-  shards_refused : (c m total i : ℕ) (place : Place) (es : List Event) (bytes : List ℕ) (r : Refusal) → total ≡ c + m → shards_at lanes s c i place bytes ≡ Err r → on total i place es bytes ≡ Refuse r
-  shards_refused c m total i place es bytes r count e =
+  shards-refused : (c m total i : ℕ) (place : Place) (es : List Event) (bytes : List ℕ) (r : Refusal) → total ≡ c + m → shards_at lanes s c i place bytes ≡ Err r → on total i place es bytes ≡ Refuse r
+  shards-refused c m total i place es bytes r count e =
       ap (told s.header)
-      (many_shards lanes s c m total i es place bytes count
+      (many-shards lanes s c m total i es place bytes count
       ∙ ap (λ (o : Result (Reading (List Shard)) Refusal). o >>= λ z. from lanes s.elf s.input s.header s.output m (i + c) z.place (es ++ shards_events s.header i z.part) z.left) e)
 
-  shards_read : (c m total i : ℕ) (place : Place) (es : List Event) (bytes : List ℕ) (y : Reading (List Shard)) → total ≡ c + m → shards_at lanes s c i place bytes ≡ Ok y
+  shards-read : (c m total i : ℕ) (place : Place) (es : List Event) (bytes : List ℕ) (y : Reading (List Shard)) → total ≡ c + m → shards_at lanes s c i place bytes ≡ Ok y
       → on total i place es bytes ≡ on m (i + c) y.place (es ++ shards_events s.header i y.part) y.left
-  shards_read c m total i place es bytes y count e =
+  shards-read c m total i place es bytes y count e =
       ap (told s.header)
-      (many_shards lanes s c m total i es place bytes count
+      (many-shards lanes s c m total i es place bytes count
       ∙ ap (λ (o : Result (Reading (List Shard)) Refusal). o >>= λ z. from lanes s.elf s.input s.header s.output m (i + c) z.place (es ++ shards_events s.header i z.part) z.left) e)
 
   -- ---- a part other than the last
@@ -148,74 +147,74 @@ module _ (lanes : Lanes) (s : Subject) where
     pub writes : x.writes.lanes ≡ digest lanes (map tuple_written events)
     pub verdict : on total i place es bytes ≡ on m (i + c) x.after (es ++ events) more
 
-  pub inner_by : (i c m total : ℕ) (place : Place) (es : List Event) (x : Summary) (body more : List ℕ) → total ≡ c + m → IsPlace place s.input s.output → answer place x ≡ x.refusal
+  pub inner-by : (i c m total : ℕ) (place : Place) (es : List Event) (x : Summary) (body more : List ℕ) → total ≡ c + m → IsPlace place s.input s.output → answer place x ≡ x.refusal
       → (o : Result (Reading (List Shard)) Refusal) → shards_at lanes s c i place body ≡ o → ends_elsewhere o ≡ false → IsTold x (o >>= λ y. Ok (shards_tell lanes s i y))
       → IsRefused i place x total es (body ++ more) ⊎ GoesOn i c m total place es x (body ++ more) more
-  inner_by i c m total place es x body more count is same (Err r) e whole told =
+  inner-by i c m total place es x body more count is same (Err r) e whole told =
       inl (record {
         r = r;
         answers = same ∙ told;
-        verdict = shards_refused c m total i place es (body ++ more) r count (refused_more lanes s c i place body more r e (λ one. eqb-false r.rule 1 whole one));
+        verdict = shards-refused c m total i place es (body ++ more) r count (refused-more lanes s c i place body more r e (λ one. eqb-false r.rule 1 whole one));
       })
-  inner_by i c m total place es x body more count is same (Ok y) e whole told =
-      let z = read_more lanes s c i place body more y e in
+  inner-by i c m total place es x body more count is same (Ok y) e whole told =
+      let z = read-more lanes s c i place body more y e in
       let t = told.1 in
-      let none : y.left ≡ [] = nil_from_length y.left (eqb-true (length y.left) 0 (was_true (length y.left == 0) whole)) in
+      let none : y.left ≡ [] = nil_from_length y.left (eqb-true (length y.left) 0 (was-true (length y.left == 0) whole)) in
       let after : z.0.place ≡ x.after = z.2.place ∙ sym (ap (λ (k : Told). k.after) t) in
       let left : z.0.left ≡ more = z.2.left ∙ ap (λ (xs : List ℕ). xs ++ more) none in
       let fs = shards_events s.header i z.0.part in
       inr (record {
         answers = same ∙ told.0;
-        stands = subst (λ q. IsPlace q s.input s.output) after (stands_through lanes s c i place (body ++ more) z.0 is z.1);
+        stands = subst (λ q. IsPlace q s.input s.output) after (stands-through lanes s c i place (body ++ more) z.0 is z.1);
         events = fs;
         reads = ap (λ (k : Told). k.reads) t ∙ sym (ap (λ (k : Sums). k.reads) z.2.sums);
         writes = ap (λ (k : Told). k.writes) t ∙ sym (ap (λ (k : Sums). k.writes) z.2.sums);
-        verdict = shards_read c m total i place es (body ++ more) z.0 count z.1 ∙ (λ u. on m (i + c) (after u) (es ++ fs) (left u));
+        verdict = shards-read c m total i place es (body ++ more) z.0 count z.1 ∙ (λ u. on m (i + c) (after u) (es ++ fs) (left u));
       })
 
   -- ---- the last part
 
-  digests_with : (f : Event → Tuple) (es fs : List Event) (ts : List Tuple) (old new : List ℕ) → old ≡ digest lanes (map f es) → new ≡ digest lanes (map f fs ++ ts) → add_lanes old new ≡ digest lanes (map f (es ++ fs) ++ ts)
-  digests_with f es fs ts old new old_is new_is =
+  digests-with : (f : Event → Tuple) (es fs : List Event) (ts : List Tuple) (old new : List ℕ) → old ≡ digest lanes (map f es) → new ≡ digest lanes (map f fs ++ ts) → add_lanes old new ≡ digest lanes (map f (es ++ fs) ++ ts)
+  digests-with f es fs ts old new old_is new_is =
       (λ t. add_lanes (old_is t) (new_is t))
       ∙ sym (digest-append lanes (map f es) (map f fs ++ ts))
       ∙ ap (λ (us : List Tuple). digest lanes us) (sym (append_assoc (map f es) (map f fs) ts) ∙ ap (λ (us : List Tuple). us ++ ts) (sym (map-append f es fs)))
 
-  last_by : (i c total : ℕ) (place : Place) (es : List Event) (reads writes : List ℕ) (n : ℕ) (b : Bool) (x : Summary) (body : List ℕ) → total ≡ c + 0 → reads ≡ digest lanes (map tuple_read es) → writes ≡ digest lanes (map tuple_written es)
+  last-by : (i c total : ℕ) (place : Place) (es : List Event) (reads writes : List ℕ) (n : ℕ) (b : Bool) (x : Summary) (body : List ℕ) → total ≡ c + 0 → reads ≡ digest lanes (map tuple_read es) → writes ≡ digest lanes (map tuple_written es)
       → answer place x ≡ x.refusal → (o : Result (Reading (List Shard)) Refusal) → shards_at lanes s c i place body ≡ o → IsTold x (o >>= λ y. read_table s.header y.left >>= λ table. Ok (shards_and_table_tell lanes s i y table))
       → combined_from s.header place reads writes n b (x ∷ []) ≡ on total i place es body
-  last_by i c total place es reads writes n b x body count read written same (Err r) e told =
-      part_refused s.header place reads writes n b x [] r (same ∙ told) ∙ sym (shards_refused c 0 total i place es body r count e)
-  last_by i c total place es reads writes n b x body count read written same (Ok y) e told = go (read_table s.header y.left) refl told
+  last-by i c total place es reads writes n b x body count read written same (Err r) e told =
+      part-refused s.header place reads writes n b x [] r (same ∙ told) ∙ sym (shards-refused c 0 total i place es body r count e)
+  last-by i c total place es reads writes n b x body count read written same (Ok y) e told = go (read_table s.header y.left) refl told
     where
       go : (o : Result (List TableEntry × List ℕ) Refusal) → read_table s.header y.left ≡ o → IsTold x (o >>= λ table. Ok (shards_and_table_tell lanes s i y table))
           → combined_from s.header place reads writes n b (x ∷ []) ≡ on total i place es body
       go (Err r) t found =
-          part_refused s.header place reads writes n b x [] r (same ∙ found)
-          ∙ sym (shards_read c 0 total i place es body y count e ∙ table_refused lanes s.elf s.input s.header s.output (i + c) y.place (es ++ shards_events s.header i y.part) y.left r t)
+          part-refused s.header place reads writes n b x [] r (same ∙ found)
+          ∙ sym (shards-read c 0 total i place es body y count e ∙ table-refused lanes s.elf s.input s.header s.output (i + c) y.place (es ++ shards_events s.header i y.part) y.left r t)
       go (Ok table) t found =
           let h = s.header in
           let fs = shards_events h i y.part in
           let is = found.1 in
-          let all_read = digests_with tuple_read es fs (map tuple_last table.0) reads x.reads.lanes read (ap (λ (k : Told). k.reads) is) in
-          let all_written = digests_with tuple_written es fs (map (first_tuple s.elf h) table.0) writes x.writes.lanes written (ap (λ (k : Told). k.writes) is) in
+          let all_read = digests-with tuple_read es fs (map tuple_last table.0) reads x.reads.lanes read (ap (λ (k : Told). k.reads) is) in
+          let all_written = digests-with tuple_written es fs (map (first_tuple s.elf h) table.0) writes x.writes.lanes written (ap (λ (k : Told). k.writes) is) in
           let nothing : not x.trailing ≡ (length table.1 == 0) = ap (λ (k : Told). not k.trailing) is ∙ twice (length table.1 == 0) in
           let after = ap (λ (k : Told). k.after) is in
           let entries = ap (λ (k : Told). k.entries) is in
           let at : ℕ → Place → List ℕ → List ℕ → Bool → Verdict = λ m p rs ws d. told_of h (unless_broken h.shards m ((25, p.input == h.consumed && p.output == h.length) ∷ (26, bytes_eq rs ws) ∷ (27, d) ∷ []) p) in
-          part_goes h place reads writes n b x [] (same ∙ found.0)
-          ∙ no_part h x.after (add_lanes reads x.reads.lanes) (add_lanes writes x.writes.lanes) x.entries x.trailing
+          part-goes h place reads writes n b x [] (same ∙ found.0)
+          ∙ no-part h x.after (add_lanes reads x.reads.lanes) (add_lanes writes x.writes.lanes) x.entries x.trailing
           ∙ (λ u. at (entries u) (after u) (all_read u) (all_written u) (nothing u))
-          ∙ sym (shards_read c 0 total i place es body y count e ∙ table_taken lanes s.elf s.input h s.output (i + c) y.place (es ++ fs) y.left table t)
+          ∙ sym (shards-read c 0 total i place es body y count e ∙ table-taken lanes s.elf s.input h s.output (i + c) y.place (es ++ fs) y.left table t)
 
   -- ---- all parts
 
-  digests_more : (f : Event → Tuple) (es fs : List Event) (old new : List ℕ) → old ≡ digest lanes (map f es) → new ≡ digest lanes (map f fs) → add_lanes old new ≡ digest lanes (map f (es ++ fs))
-  digests_more f es fs old new old_is new_is =
+  digests-more : (f : Event → Tuple) (es fs : List Event) (old new : List ℕ) → old ≡ digest lanes (map f es) → new ≡ digest lanes (map f fs) → add_lanes old new ≡ digest lanes (map f (es ++ fs))
+  digests-more f es fs old new old_is new_is =
       (λ t. add_lanes (old_is t) (new_is t)) ∙ sym (digest-append lanes (map f es) (map f fs)) ∙ ap (λ (us : List Tuple). digest lanes us) (sym (map-append f es fs))
 
-  alone_short : (n i : ℕ) (bytes : List ℕ) → length bytes < 32 → shards_alone lanes s n i bytes ≡ Err (record { shard = i; row = 0; rule = 1 })
-  alone_short n i bytes lt = ap (λ b. unless_broken i 0 ((1, b) ∷ (9, can_stand (stated bytes) s.input s.output) ∷ []) bytes >>= shards_at lanes s n i (stated bytes)) (lt-leb 32 (length bytes) lt)
+  alone-short : (n i : ℕ) (bytes : List ℕ) → length bytes < 32 → shards_alone lanes s n i bytes ≡ Err (record { shard = i; row = 0; rule = 1 })
+  alone-short n i bytes lt = ap (λ b. unless_broken i 0 ((1, b) ∷ (9, can_stand (stated bytes) s.input s.output) ∷ []) bytes >>= shards_at lanes s n i (stated bytes)) (lt-leb 32 (length bytes) lt)
 
   -- parts without a fault are as many as they say, and begin within the shards
   reach : (n k i : ℕ) (ps : List Part) (xs : List Summary) → AreFaultless lanes s n k i ps xs → (k + length ps ≡ n) × (i ≤ s.header.shards)
@@ -239,15 +238,15 @@ module _ (lanes : Lanes) (s : Subject) where
       let some : total ≡ suc (total - 1) = omega (arith, f.2.1, head.some) in
       let nil = append-nil p.body in
       let go : IsRefused i place x total es (p.body ++ []) ⊎ IsStated i place x p.body → combined_from s.header place reads writes m b (x ∷ []) ≡ on total i place es (p.body ++ []) = λ o. elim o [
-        | inl r ↦ part_refused s.header place reads writes m b x [] r.r r.answers ∙ sym r.verdict
+        | inl r ↦ part-refused s.header place reads writes m b x [] r.r r.answers ∙ sym r.verdict
         | inr st ↦
-            let alone : shards_alone lanes s c p.head.first p.body ≡ shards_at lanes s c i place p.body = ap (λ j. shards_alone lanes s c j p.body) head.first ∙ all_alone_is lanes s c i place p.body st.long st.there is in
+            let alone : shards_alone lanes s c p.head.first p.body ≡ shards_at lanes s c i place p.body = ap (λ j. shards_alone lanes s c j p.body) head.first ∙ all-alone-is lanes s c i place p.body st.long st.there is in
             let first = head.first in
             let found : IsTold x (shards_at lanes s c i place p.body >>= λ y. read_table s.header y.left >>= λ table. Ok (shards_and_table_tell lanes s i y table)) =
             subst (IsTold x) (λ t. alone t >>= λ y. if last t then (read_table s.header y.left >>= λ table. Ok (shards_and_table_tell lanes s (first t) y table)) else Ok (shards_tell lanes s (first t) y)) k_is.found in
-            last_by i c total place es reads writes m b x p.body count read written st.answers (shards_at lanes s c i place p.body) refl found ∙ ap (λ (zs : List ℕ). on total i place es zs) (sym nil)
+            last-by i c total place es reads writes m b x p.body count read written st.answers (shards_at lanes s c i place p.body) refl found ∙ ap (λ (zs : List ℕ). on total i place es zs) (sym nil)
       ] in
-      go (by_place i total (total - 1) place es x p.body [] some (k_is.first ∙ head.first) k_is.before (λ lt. omega (arith, lt, ap length nil)))
+      go (by-place i total (total - 1) place es x p.body [] some (k_is.first ∙ head.first) k_is.before (λ lt. omega (arith, lt, ap length nil)))
   joined n k i place es reads writes m b p (q ∷ ps) (x ∷ xs) is read written f =
       let head = f.0 in
       let k_is = f.1.1 in
@@ -262,26 +261,26 @@ module _ (lanes : Lanes) (s : Subject) where
       let more = concat (map (λ (o : Part). o.body) (q ∷ ps)) in
       let whole : ends_elsewhere (shards_alone lanes s c p.head.first p.body) ≡ false = ap (λ l. not l && ends_elsewhere (shards_alone lanes s c p.head.first p.body)) (sym other) ∙ f.1.0 in
       let short : length p.body < 32 → length (p.body ++ more) < 32 = λ lt.
-      let cut : true ≡ false = sym (ap ends_elsewhere (alone_short c p.head.first p.body lt)) ∙ whole in
+      let cut : true ≡ false = sym (ap ends_elsewhere (alone-short c p.head.first p.body lt)) ∙ whole in
       absurd cc in
       let behind : GoesOn i c left total place es x (p.body ++ more) more → combined_from s.header place reads writes m b (x ∷ xs) ≡ on total i place es (p.body ++ more) = λ g.
-      part_goes s.header place reads writes m b x xs g.answers
+      part-goes s.header place reads writes m b x xs g.answers
       ∙ joined n (k + 1) (i + c) x.after (es ++ g.events) (add_lanes reads x.reads.lanes) (add_lanes writes x.writes.lanes) x.entries x.trailing q ps xs g.stands
-      (digests_more tuple_read es g.events reads x.reads.lanes read g.reads) (digests_more tuple_written es g.events writes x.writes.lanes written g.writes) f.2
+      (digests-more tuple_read es g.events reads x.reads.lanes read g.reads) (digests-more tuple_written es g.events writes x.writes.lanes written g.writes) f.2
       ∙ sym g.verdict in
       let settled : IsRefused i place x total es (p.body ++ more) ⊎ GoesOn i c left total place es x (p.body ++ more) more → combined_from s.header place reads writes m b (x ∷ xs) ≡ on total i place es (p.body ++ more) = λ o. elim o [
-        | inl r ↦ part_refused s.header place reads writes m b x xs r.r r.answers ∙ sym r.verdict
+        | inl r ↦ part-refused s.header place reads writes m b x xs r.r r.answers ∙ sym r.verdict
         | inr g ↦ behind g
       ] in
       let go : IsRefused i place x total es (p.body ++ more) ⊎ IsStated i place x p.body → combined_from s.header place reads writes m b (x ∷ xs) ≡ on total i place es (p.body ++ more) = λ o. elim o [
         | inl r ↦ settled (inl r)
         | inr st ↦
-            let alone : shards_alone lanes s c p.head.first p.body ≡ shards_at lanes s c i place p.body = ap (λ j. shards_alone lanes s c j p.body) first ∙ all_alone_is lanes s c i place p.body st.long st.there is in
+            let alone : shards_alone lanes s c p.head.first p.body ≡ shards_at lanes s c i place p.body = ap (λ j. shards_alone lanes s c j p.body) first ∙ all-alone-is lanes s c i place p.body st.long st.there is in
             let found : IsTold x (shards_at lanes s c i place p.body >>= λ y. Ok (shards_tell lanes s i y)) =
             subst (IsTold x) (λ t. alone t >>= λ y. if other t then (read_table s.header y.left >>= λ table. Ok (shards_and_table_tell lanes s (first t) y table)) else Ok (shards_tell lanes s (first t) y)) k_is.found in
-            settled (inner_by i c left total place es x p.body more count is st.answers (shards_at lanes s c i place p.body) refl (ap ends_elsewhere (sym alone) ∙ whole) found)
+            settled (inner-by i c left total place es x p.body more count is st.answers (shards_at lanes s c i place p.body) refl (ap ends_elsewhere (sym alone) ∙ whole) found)
       ] in
-      go (by_place i total (total - 1) place es x p.body more some (k_is.first ∙ head.first) k_is.before short)
+      go (by-place i total (total - 1) place es x p.body more some (k_is.first ∙ head.first) k_is.before short)
 
 nothing : (lanes : Lanes) → no_sums ≡ event_sums true lanes []
 unfolding digest_lane
@@ -295,32 +294,32 @@ module _ (lanes : Lanes) (elf input front : List ℕ) (size : IsFront front) (pa
   first = first_place true lanes elf input h
 
   -- the verdict behind a front that breaks no check
-  behind_front_is : (bytes : List ℕ) → verdict lanes elf input (front ++ bytes) ≡ verdict_from lanes (behind_front elf input front) h.shards 0 first [] bytes
-  behind_front_is bytes =
+  behind-front-is : (bytes : List ℕ) → verdict lanes elf input (front ++ bytes) ≡ verdict_from lanes (behind_front elf input front) h.shards 0 first [] bytes
+  behind-front-is bytes =
       let checks = header_checks true lanes elf input front in
       let begun = first_phase true lanes elf input h in
-      let none = (unless_ok 0 0 checks h h passed).0 in
-      let opened_is : opened true lanes elf input front ≡ Ok (begun, []) = unless_holds 0 0 checks (begun, []) none in
-      verdict_behind_front lanes elf input front bytes size
-      ∙ ap (λ o. told h (outcome (step true lanes elf input h (drop 173 front)) o bytes)) opened_is
-      ∙ ap (told h) (sym (whole_file_is_read true lanes elf input h (drop 173 front) begun bytes))
+      let none = (unless-ok 0 0 checks h h passed).0 in
+      let opened-is : opened true lanes elf input front ≡ Ok (begun, []) = unless-holds 0 0 checks (begun, []) none in
+      verdict-behind-front lanes elf input front bytes size
+      ∙ ap (λ o. told h (outcome (step true lanes elf input h (drop 173 front)) o bytes)) opened-is
+      ∙ ap (told h) (sym (whole-file-is-read true lanes elf input h (drop 173 front) begun bytes))
       ∙ ap (λ z. told h (runs true lanes elf input h (drop 173 front) WholeFile (Shards h.shards 0 first z) bytes)) (nothing lanes)
 
-  some_shards : 1 ≤ h.shards
-  some_shards = (shards_within h (header_checked lanes elf input front h passed).numbers).0
+  some-shards : 1 ≤ h.shards
+  some-shards = (shards-within h (header-checked lanes elf input front h passed).numbers).0
 
-  tells_by : (parts : List Part) (xs : List Summary) → IsPlace first input (drop 173 front) → AreFaultless lanes (behind_front elf input front) (length parts) 0 0 parts xs
+  tells-by : (parts : List Part) (xs : List Summary) → IsPlace first input (drop 173 front) → AreFaultless lanes (behind_front elf input front) (length parts) 0 0 parts xs
       → combined elf input h xs ≡ verdict lanes elf input (whole front (map (λ p. p.body) parts))
-  tells_by [] [] is f = absurd (omega (arith, f.1, some_shards))
-  tells_by [] (x ∷ xs) is f = absurd f
-  tells_by (p ∷ ps) xs is f =
+  tells-by [] [] is f = absurd (omega (arith, f.1, some-shards))
+  tells-by [] (x ∷ xs) is f = absurd f
+  tells-by (p ∷ ps) xs is f =
       let all : h.shards - 0 ≡ h.shards = omega arith in
       let bytes = concat (map (λ (q : Part). q.body) (p ∷ ps)) in
       joined lanes (behind_front elf input front) (length (p ∷ ps)) 0 0 first [] (replicate 16 0) (replicate 16 0) 0 false p ps xs is (ap (λ (z : Sums). z.reads) (nothing lanes)) (ap (λ (z : Sums). z.writes) (nothing lanes)) f
       ∙ ap (λ k. verdict_from lanes (behind_front elf input front) k 0 first [] bytes) all
-      ∙ sym (behind_front_is bytes)
+      ∙ sym (behind-front-is bytes)
 
-pub summaries_tell : SummariesTellVerdict
-summaries_tell lanes elf input front parts xs bytes faultless size passed f =
-    tells_by lanes elf input front size passed parts xs
+pub summaries-tell : SummariesTellVerdict
+summaries-tell lanes elf input front parts xs bytes faultless size passed f =
+    tells-by lanes elf input front size passed parts xs
     (record { aligned = (image-is-program (header_of front).version elf bytes faultless).aligned; taken = omega arith; put = omega arith }) f

@@ -9,3 +9,5 @@ pub mod CombineLaws
 pub mod Continuing
 pub mod JoinLaws
 pub mod HeadsOfParts
+pub mod ReadingForProgram
+pub mod CutPartLaws

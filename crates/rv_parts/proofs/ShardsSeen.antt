@@ -15,16 +15,16 @@ use Rattle.rv_judge.specs.Subject.{Subject}
 use Rattle.rv_judge.specs.Alone.{SeesShard, read_alone}
 use Rattle.rv_parts.specs.declared.shards.ShardsSeen.{ShardsSeen}
 use Rattle.rv_parts.specs.Alone.{SeesShardAt, SeesShards, shards_alone}
-use Rattle.rv_parts.proofs.ShardsFollow.{After, after_all, alone_is, first_alone, follow, goes_on, goes_on_alone, none_follow, read_at, read_there, refuses, shard_events, stands_behind, was_read, was_refused}
+use Rattle.rv_parts.proofs.ShardsFollow.{After, after_all, alone-is, first-alone, follow, goes-on, goes-on-alone, none-follow, read_at, read-there, refuses, shard_events, stands-behind, was-read, was-refused}
 
 module _ (lanes : Lanes) (s : Subject) where
-  sees_by : (i : ℕ) (p : Place) (bytes : List ℕ) (o : Result ShardSeen Refusal) → read_alone lanes s i bytes ≡ read_at lanes s i p bytes → SeesShard lanes s i bytes o → SeesShardAt lanes s i p bytes o
-  sees_by i p bytes (Ok seen) same sees = (sees.0, sym same ∙ sees.1, sees.2)
-  sees_by i p bytes (Err r) same sees = sym same ∙ sees
+  sees-by : (i : ℕ) (p : Place) (bytes : List ℕ) (o : Result ShardSeen Refusal) → read_alone lanes s i bytes ≡ read_at lanes s i p bytes → SeesShard lanes s i bytes o → SeesShardAt lanes s i p bytes o
+  sees-by i p bytes (Ok seen) same sees = (sees.0, sym same ∙ sees.1, sees.2)
+  sees-by i p bytes (Err r) same sees = sym same ∙ sees
 
   -- a shard that states the place before it was seen at this place
-  pub sees_at : (i : ℕ) (p : Place) (bytes : List ℕ) (o : Result ShardSeen Refusal) → 32 ≤ length bytes → same_place (head_of bytes) p ≡ true → IsPlace p s.input s.output → SeesShard lanes s i bytes o → SeesShardAt lanes s i p bytes o
-  sees_at i p bytes o le same is sees = sees_by i p bytes o (alone_is lanes s i p bytes le same is) sees
+  pub sees-at : (i : ℕ) (p : Place) (bytes : List ℕ) (o : Result ShardSeen Refusal) → 32 ≤ length bytes → same_place (head_of bytes) p ≡ true → IsPlace p s.input s.output → SeesShard lanes s i bytes o → SeesShardAt lanes s i p bytes o
+  sees-at i p bytes o le same is sees = sees-by i p bytes o (alone-is lanes s i p bytes le same is) sees
 
   -- What is known between two shards of a part: where the run stands, the digests so far, and that the reading goes on from here.
   pub record IsBetween (n i m j : ℕ) (body : List ℕ) (place : Place) (es : List Event) (reads writes rest : List ℕ) : Type 0 where
@@ -39,17 +39,17 @@ module _ (lanes : Lanes) (s : Subject) where
   begun n i body rest seen some sees is =
       let x = sees.0 in
       let k = sees.2 in
-      let at = read_there lanes s i body x sees.1 in
+      let at = read-there lanes s i body x sees.1 in
       let es = shard_events lanes s i x in
       let count : n ≡ suc (n - 1) = omega (arith, some) in (
         es,
         record {
-          stands = subst (λ q. IsPlace q s.input s.output) (sym k.after) (stands_behind lanes s i _ body x at.0 at.1);
+          stands = subst (λ q. IsPlace q s.input s.output) (sym k.after) (stands-behind lanes s i _ body x at.0 at.1);
           read = k.reads;
           written = k.writes;
           on =
               ap (λ m. after_all lanes s i [] (shards_alone lanes s m i body)) count
-              ∙ goes_on_alone lanes s (n - 1) i body x sees.1
+              ∙ goes-on-alone lanes s (n - 1) i body x sees.1
               ∙ (λ t. follow lanes s (n - 1) (i + 1) (sym k.after t) es ((k.left ∙ sym is) t));
         },
       )
@@ -67,31 +67,31 @@ module _ (lanes : Lanes) (s : Subject) where
       let fs = shard_events lanes s j x in (
         es ++ fs,
         record {
-          stands = subst (λ q. IsPlace q s.input s.output) (sym k.after) (stands_behind lanes s j place rest x before.stands sees.1);
+          stands = subst (λ q. IsPlace q s.input s.output) (sym k.after) (stands-behind lanes s j place rest x before.stands sees.1);
           read = read (map tuple_read fs) k.reads ∙ ap (λ (ts : List Tuple). digest lanes ts) (sym (map-append tuple_read es fs));
           written = written (map tuple_written fs) k.writes ∙ ap (λ (ts : List Tuple). digest lanes ts) (sym (map-append tuple_written es fs));
-          on = before.on ∙ goes_on lanes s m j place es rest x sees.1 ∙ (λ t. follow lanes s m (j + 1) (sym k.after t) (es ++ fs) ((k.left ∙ sym is) t));
+          on = before.on ∙ goes-on lanes s m j place es rest x sees.1 ∙ (λ t. follow lanes s m (j + 1) (sym k.after t) (es ++ fs) ((k.left ∙ sym is) t));
         },
       )
 
   -- the first shard is refused
-  pub refused_first : (n i : ℕ) (body : List ℕ) (r : Refusal) → 1 ≤ n → read_alone lanes s i body ≡ Err r → shards_alone lanes s n i body ≡ Err r
-  refused_first n i body r some e =
+  pub refused-first : (n i : ℕ) (body : List ℕ) (r : Refusal) → 1 ≤ n → read_alone lanes s i body ≡ Err r → shards_alone lanes s n i body ≡ Err r
+  refused-first n i body r some e =
       let count : n ≡ suc (n - 1) = omega (arith, some) in
-      was_refused lanes s i [] r (shards_alone lanes s n i body)
+      was-refused lanes s i [] r (shards_alone lanes s n i body)
       (ap (λ m. after_all lanes s i [] (shards_alone lanes s m i body)) count
-      ∙ first_alone lanes s (n - 1) i body
+      ∙ first-alone lanes s (n - 1) i body
       ∙ ap (λ (o : Result (Reading Shard) Refusal). o >>= λ x. follow lanes s (n - 1) (i + 1) x.place (shard_events lanes s i x) x.left) e)
 
   -- a later shard is refused
-  pub refused_later : (n i m j : ℕ) (body : List ℕ) (place : Place) (es : List Event) (reads writes rest : List ℕ) (r : Refusal) → IsBetween n i (suc m) j body place es reads writes rest
+  pub refused-later : (n i m j : ℕ) (body : List ℕ) (place : Place) (es : List Event) (reads writes rest : List ℕ) (r : Refusal) → IsBetween n i (suc m) j body place es reads writes rest
       → read_at lanes s j place rest ≡ Err r → shards_alone lanes s n i body ≡ Err r
-  refused_later n i m j body place es reads writes rest r before e = was_refused lanes s i [] r (shards_alone lanes s n i body) (before.on ∙ refuses lanes s m j place es rest r e)
+  refused-later n i m j body place es reads writes rest r before e = was-refused lanes s i [] r (shards_alone lanes s n i body) (before.on ∙ refuses lanes s m j place es rest r e)
 
   -- behind all shards
   pub ended : (n i j : ℕ) (body : List ℕ) (es : List Event) (seen : ShardsSeen) → IsBetween n i 0 j body seen.after es seen.reads.lanes seen.writes.lanes seen.rest.now → SeesShards lanes s n i body (Ok seen)
   ended n i j body es seen k =
-      let read = was_read lanes s i [] _ (shards_alone lanes s n i body) (k.on ∙ none_follow lanes s j seen.after es seen.rest.now) in
+      let read = was-read lanes s i [] _ (shards_alone lanes s n i body) (k.on ∙ none-follow lanes s j seen.after es seen.rest.now) in
       let is = read.2 in
       let events = ap (λ (a : After). a.events) is in (
         read.0,

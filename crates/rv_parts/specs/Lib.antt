@@ -4,3 +4,4 @@ pub mod Alone
 pub mod Summaries
 pub mod Combining
 pub mod Joining
+pub mod RecordInParts

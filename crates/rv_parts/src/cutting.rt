@@ -8,9 +8,7 @@ ghost use Rattle.rv_parts.specs.Heads.{head_bytes};
 ghost use Rattle.rv_parts.specs.Cutting.{body_of, first_of, front_of, head_of_part};
 
 use crate::heads::{PART_HEAD_BYTES, PartHead, write_part};
-use crate::walking::{behind, head_at, shard_size};
-use rv_base::layout::HEADER_BYTES;
-use rv_file::Parsed;
+use rv_file::{Parsed, behind_shard};
 
 /// The most parts that a record is cut into.
 pub const PARTS_LIMIT: u32 = 64;
@@ -41,10 +39,7 @@ fn behind_first(bytes: &[u8], shards: u32) -> &[u8]
 {
     let mut rest = bytes;
     for _ in 0..shards {
-        let Some(head) = head_at(rest) else {
-            unreachable!();
-        };
-        rest = behind(rest, shard_size(&head));
+        rest = behind_shard(rest);
     }
     rest
 }
@@ -70,7 +65,8 @@ pub fn part_cut<'a>(file: &'a [u8], parsed: &Parsed<'a>, parts: u32, number: u32
     ensures body { result.body.now ≡ body_of parsed.now parts number }
 {
     let header = parsed.header();
-    let (front, shards) = file.split_at(HEADER_BYTES + header.length as usize);
+    let shards = parsed.body();
+    let front = &file[..file.len() - shards.len()];
     let first = first_shard(header.shards, parts, number);
     let count = first_shard(header.shards, parts, number + 1) - first;
     let from = behind_first(shards, first);

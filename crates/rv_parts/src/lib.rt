@@ -9,10 +9,12 @@ mod shards;
 mod summaries;
 #[cfg(test)]
 mod tests;
-mod walking;
 
 pub use combining::combine;
 pub use cutting::{PARTS_LIMIT, PartCut, part_cut};
 pub use heads::{PART_HEAD_BYTES, PartHead, read_part};
-pub use laws::{heads_cover, parts_are_the_file, summaries_tell_the_verdict};
+pub use laws::{
+    cut_parts_have_no_fault, cut_parts_tell_the_verdict, heads_cover, parts_are_the_file,
+    summaries_tell_the_verdict,
+};
 pub use summaries::{Cut, Summary, summarize};

@@ -1,15 +1,16 @@
 //! The shards of a part, judged alone.
 
-ghost use Rattle.std.specs.Prelude.{◌≡◌, ◌+◌, ◌<◌, ◌≤◌, length};
-ghost use Rattle.rv_rules.specs.Reading.{same_place};
+ghost use Rattle.std.specs.Prelude.{◌≡◌, ◌+◌, ◌<◌, ◌≤◌, MatchOption, length};
+ghost use Rattle.rv_rules.specs.Reading.{head_of, same_place};
 ghost use Rattle.rv_rowcheck.specs.RowChecking.{IsPlace};
 ghost use Rattle.rv_judge.specs.Subject.{IsChecked};
 ghost use Rattle.rv_parts.specs.Alone.{SeesShardAt, SeesShards, subject_of};
 
-use crate::walking::{behind, head_at};
+use rv_base::layout::HEAD_BYTES;
 use rv_base::rules::{SHARD_HEAD, SHORT};
 use rv_base::{Header, Place, Refusal, ShardHead};
 use rv_digest::{Lanes, SetDigest};
+use rv_file::read_head;
 use rv_judge::{ShardSeen, check_shard};
 use rv_program::Program;
 
@@ -21,6 +22,16 @@ pub(crate) struct ShardsSeen<'a> {
     pub reads: SetDigest,
     pub writes: SetDigest,
     pub rest: &'a [u8],
+}
+
+/// The head at the front of the bytes, if it is all there.
+pub(crate) fn head_at(bytes: &[u8]) -> Option<ShardHead>
+    ensures { MatchOption result (length bytes.now < HEAD_BYTES) (λ h. (HEAD_BYTES ≤ length bytes.now) × (h ≡ head_of bytes.now)) }
+{
+    match bytes.first_chunk::<HEAD_BYTES>() {
+        Some(head) => Some(read_head(head)),
+        None => None,
+    }
 }
 
 /// Whether a head states this place.
@@ -75,13 +86,13 @@ pub(crate) fn check_shards<'a, L: Lanes>(
     let mut after = seen.after;
     let mut reads = seen.reads;
     let mut writes = seen.writes;
-    let mut rest = behind(body, seen.used);
+    let mut rest = &body[seen.used..];
     for i in first + 1..first + count {
         let seen = check_shard_at(program, header, output, after, rest, i, lanes)?;
         after = seen.after;
         reads.add(&seen.reads);
         writes.add(&seen.writes);
-        rest = behind(rest, seen.used);
+        rest = &rest[seen.used..];
     }
     Ok(ShardsSeen {
         after,

@@ -6,8 +6,7 @@ ghost use Rattle.rv_parts.specs.Alone.{subject_of};
 ghost use Rattle.rv_parts.specs.Summaries.{AddsTable, IsOfPart, IsSamePart, Summarizes, is_last as is_last_of, place_before, told_in};
 
 use crate::heads::PartHead;
-use crate::shards::{ShardsSeen, check_shards};
-use crate::walking::head_at;
+use crate::shards::{ShardsSeen, check_shards, head_at};
 use rv_base::rules::SHORT;
 use rv_base::{Header, Place, Refusal};
 use rv_digest::{Lanes, SetDigest};
@@ -139,7 +138,8 @@ fn with_table<L: Lanes>(
 ///
 /// # Errors
 ///
-/// `Cut` in a part other than the last: the first broken check of its shards is by rule 1, or none is broken and bytes follow them.
+/// `Cut` in a part other than the last: the first broken check of its shards is by rule 1, or none is broken and bytes follow them. No part
+/// that `part_cut` cuts is one, judged by its own head and front (`cut_parts_have_no_fault`).
 pub fn summarize<L: Lanes>(
     program: &Program<'_>,
     header: &Header,

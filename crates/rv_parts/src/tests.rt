@@ -1,7 +1,5 @@
 //! A worked record in two parts.
 
-ghost use Rattle.std.specs.Prelude.{◌+◌, ◌≤◌};
-
 mod worked;
 
 use super::*;
@@ -10,6 +8,7 @@ use rv_base::{End, Header, Place, Refusal, Verdict};
 use rv_digest::ShaLanes;
 use rv_file::parse;
 use rv_program::{Program, check_front};
+use std::alloc::Global;
 use std::test::Fail;
 use worked::{ELF, record_in_three};
 
@@ -18,6 +17,13 @@ const HEADS: [[u8; 24]; 2] = [
     *b"RV32PRT1\0\0\0\0\x02\0\0\0\0\0\0\0\x01\0\0\0",
     *b"RV32PRT1\x01\0\0\0\x02\0\0\0\x01\0\0\0\x02\0\0\0",
 ];
+
+/// The verdict on the record.
+const ACCEPTED: Verdict = Verdict::Accept {
+    steps: 3,
+    shards: 3,
+    end: End { kind: 0, code: 42 },
+};
 
 // Of 1,295 bytes: the header has 173, shard 0 from 173 to 512, shard 1 to 851, shard 2 to 1,211, and the table the rest.
 #[test]
@@ -56,32 +62,23 @@ fn heads_of_parts(rt: HostRuntime) -> Result<(), Fail> {
     Ok(())
 }
 
-/// The two heads, as numbers.
-fn head_of(number: u32) -> PartHead
-    requires { number ≤ 1 }
-    ensures some { 1 ≤ result.count }
-    ensures within { result.first + result.count ≤ 3 }
-{
-    PartHead {
-        number,
-        parts: 2,
-        first: number,
-        count: number.min(1) + 1,
-    }
-}
-
-/// The summary of one of the two parts, with this body.
+/// The summary of the part with this head and this body, of a record of no output.
 fn summary_of(
     program: &Program<'_>,
-    file: &[u8],
-    number: u32,
+    front: &[u8],
+    head: &[u8],
     body: &[u8],
 ) -> Result<Result<Summary, Cut>, Fail> {
-    let header = check_front(program, file)?;
-    if header.length != 0 || number > 1 || header.shards < 3 {
+    let header = check_front(program, front)?;
+    let head = read_part(head).ok_or("no head")?;
+    let shards = header.shards;
+    if header.length != 0
+        || head.count < 1
+        || head.first > shards
+        || head.count > shards - head.first
+    {
         return Err("another record".into());
     }
-    let head = head_of(number);
     Ok(summarize(program, &header, &[], head, body, &ShaLanes))
 }
 
@@ -89,10 +86,10 @@ fn summary_of(
 fn verdict_on(program: &Program<'_>, file: &[u8], last: &[u8]) -> Result<Verdict, Fail> {
     let header = check_front(program, file)?;
     let first = file.get(173..512).ok_or("short")?;
-    let Ok(zero) = summary_of(program, file, 0, first)? else {
+    let Ok(zero) = summary_of(program, file, &HEADS[0], first)? else {
         return Err("part 0 is cut".into());
     };
-    let Ok(one) = summary_of(program, file, 1, last)? else {
+    let Ok(one) = summary_of(program, file, &HEADS[1], last)? else {
         return Err("part 1 is cut".into());
     };
     Ok(combine(program, &header, &[zero, one]))
@@ -103,13 +100,8 @@ fn two_parts_are_the_record(rt: HostRuntime) -> Result<(), Fail> {
     let program = Program::open(&ELF, &[])?;
     let file = record_in_three(rt.alloc(), &program)?;
     let last = file.get(512..).ok_or("short")?;
-    let accepted = Verdict::Accept {
-        steps: 3,
-        shards: 3,
-        end: End { kind: 0, code: 42 },
-    };
-    assert_eq!(rt; verdict_on(&program, &file, last)?, accepted);
-    let Ok(summary) = summary_of(&program, &file, 1, last)? else {
+    assert_eq!(rt; verdict_on(&program, &file, last)?, ACCEPTED);
+    let Ok(summary) = summary_of(&program, &file, &HEADS[1], last)? else {
         return Err("cut".into());
     };
     assert_eq!(rt;
@@ -129,6 +121,40 @@ fn two_parts_are_the_record(rt: HostRuntime) -> Result<(), Fail> {
         }
     );
     assert_eq!(rt; summary.entries, 5);
+    Ok(())
+}
+
+/// The verdict by the summaries of all parts that a record is cut into, each judged by its own bytes alone.
+fn verdict_by_parts(
+    alloc: Global,
+    program: &Program<'_>,
+    file: &[u8],
+    parts: u32,
+) -> Result<Verdict, Fail> {
+    let header = check_front(program, file)?;
+    let parsed = parse(file)?;
+    if parts < 1 || parts > PARTS_LIMIT || parts > parsed.header().shards {
+        return Err("no such parts".into());
+    }
+    let mut summaries = Vec::new(alloc);
+    for number in 0..parts {
+        let part = part_cut(file, &parsed, parts, number);
+        let Ok(summary) = summary_of(program, part.front, &part.head, part.body)? else {
+            return Err("cut".into());
+        };
+        summaries.push(summary)?;
+    }
+    Ok(combine(program, &header, &summaries))
+}
+
+#[test]
+fn parts_of_a_record(rt: HostRuntime) -> Result<(), Fail> {
+    let program = Program::open(&ELF, &[])?;
+    let file = record_in_three(rt.alloc(), &program)?;
+    for parts in [1, 2, 3] {
+        let verdict = verdict_by_parts(rt.alloc(), &program, &file, parts)?;
+        assert_eq!(rt; verdict, ACCEPTED);
+    }
     Ok(())
 }
 
@@ -164,7 +190,7 @@ fn parts_that_are_cut(rt: HostRuntime) -> Result<(), Fail> {
     let file = record_in_three(rt.alloc(), &program)?;
     for to in [173, 511, 513] {
         let body = file.get(173..to).ok_or("short")?;
-        assert_eq!(rt; summary_of(&program, &file, 0, body)?, Err(Cut));
+        assert_eq!(rt; summary_of(&program, &file, &HEADS[0], body)?, Err(Cut));
     }
     let mut file = file;
     file.push(0)?;

@@ -1,5 +1,5 @@
 -- The promise of a call that tells how a plan ended, from how it ended and what was printed.
-use Rattle.std.proofs.Common.{◌≡◌, ◌≢◌, ◌⊎◌, inl, inr, ℕ, ◌≤◌, List, [], ◌++◌, Bool, true, false, Option, Some, None, Ok, ◌==◌, nat_lt, refl, sym, ◌∙◌, ap, subst, arith, option_map, length, if◌then◌else◌}
+use Rattle.std.proofs.Common.{◌≡◌, ◌≢◌, ◌⊎◌, inl, inr, ℕ, ◌≤◌, List, [], ◌++◌, Bool, true, false, ◌||◌, Option, Some, None, Ok, ◌==◌, nat_lt, refl, sym, ◌∙◌, ap, subst, arith, option_map, length, if◌then◌else◌}
 use Rattle.std.proofs.lemmas.Bool.{eqb-false, false≢true}
 use Rattle.rv_base.specs.declared.limits.TheConstants.{ELF_LIMIT, INPUT_LIMIT}
 use Rattle.rv_spec.specs.Elf.{first_fault}
@@ -10,92 +10,97 @@ use Rattle.rv_plan.specs.Plan.{Outcome, Plan, read, answer, refuses, read_within
 use Rattle.rv_plan.specs.Endings.{Ends, IsWritten, Leaves, Reaches, TakesMemory}
 use Rattle.rv_plan.specs.Endings.Ends.{done, unread, unwritten, no_memory}
 use Rattle.rv_plan.specs.FileCalls.{Performs, Stops}
-use Rattle.rv_plan.specs.Answers.{AllListed, Answers, IsListed, IsOutcomeOf, Prints, PrintsFault}
+use Rattle.rv_plan.specs.Answers.{AllListed, Answers, IsListed, IsOutcomeOf, IsStatus, Prints, PrintsFault}
 use Rattle.rv_plan.specs.Answers.Prints.{whole, torn}
 use Rattle.rv_plan.specs.declared.told.Told.{Told}
 use Rattle.rv_plan.specs.declared.faults.Fault.{Fault}
 use Rattle.rv_plan.specs.declared.faults.Limited.{Limited}
 use Rattle.rv_plan.specs.declared.faults.Limited.TheVariants as limited
-use Rattle.rv_plan.specs.declared.faults.Fault.TheVariants.{Words, Elf, Budget, Read, Write, Memory, Limit}
+use Rattle.rv_plan.specs.declared.faults.Fault.TheVariants.{Words, Elf, Budget, Read, Write, Memory, Limit, Part, Step}
 
 apart : {m n : ℕ} → (m == n) ≡ false → m ≢ n
 apart {m} {n} e = eqb-false m n e
 
 -- ---- the outcomes of the table
 
-pub refusal_listed : (f : Fault) → IsListed (refuses f)
-refusal_listed Words = record { status = omega arith; writes = λ _. refl }
-refusal_listed (Elf e) = record { status = omega arith; writes = λ _. refl }
-refusal_listed (Budget n) = record { status = omega arith; writes = λ _. refl }
-refusal_listed Read = record { status = omega arith; writes = λ _. refl }
-refusal_listed Write = record { status = omega arith; writes = λ _. refl }
-refusal_listed Memory = record { status = omega arith; writes = λ _. refl }
-refusal_listed (Limit what) = record { status = omega arith; writes = λ _. refl }
+pub at-most-8 : (o : Outcome) → o.status ≤ 8 → (o.status ≢ 0 → o.writes ≡ []) → IsListed o
+at-most-8 o le none = record { status = inl (omega arith, le); writes = none }
 
-pub success_listed : (o : Outcome) → o.status ≡ 0 → IsListed o
-success_listed o is = record { status = omega (arith, is); writes = λ n. absurd (n is) }
+pub refusal-listed : (f : Fault) → IsListed (refuses f)
+refusal-listed Words = at-most-8 _ (omega arith) (λ _. refl)
+refusal-listed (Elf e) = at-most-8 _ (omega arith) (λ _. refl)
+refusal-listed (Budget n) = at-most-8 _ (omega arith) (λ _. refl)
+refusal-listed Read = at-most-8 _ (omega arith) (λ _. refl)
+refusal-listed Write = at-most-8 _ (omega arith) (λ _. refl)
+refusal-listed Memory = at-most-8 _ (omega arith) (λ _. refl)
+refusal-listed (Limit what) = at-most-8 _ (omega arith) (λ _. refl)
+refusal-listed (Part number fault) = record { status = inr (omega arith, omega arith); writes = λ _. refl }
+refusal-listed (Step steps) = record { status = inr (omega arith, omega arith); writes = λ _. refl }
 
-pub listed_answer : (p : Outcome) → IsListed p → AllListed (answer p)
-listed_answer p h files o is = subst IsListed (sym is) h
+pub success-listed : (o : Outcome) → o.status ≡ 0 → IsListed o
+success-listed o is = at-most-8 o (omega (arith, is)) (λ n. absurd (n is))
 
-pub listed_if : (b : Bool) (x y : Plan) → AllListed x → AllListed y → AllListed (if b then x else y)
-listed_if true x y hx hy = hx
-listed_if false x y hx hy = hy
+pub listed-answer : (p : Outcome) → IsListed p → AllListed (answer p)
+listed-answer p h files o is = subst IsListed (sym is) h
 
-pub listed_read : (name : List ℕ) (next : List ℕ → Plan) → ((bytes : List ℕ) → AllListed (next bytes)) → AllListed (read name next)
-listed_read name next h files o r = h r.0 files o r.2
+pub listed-if : (b : Bool) (x y : Plan) → AllListed x → AllListed y → AllListed (if b then x else y)
+listed-if true x y hx hy = hx
+listed-if false x y hx hy = hy
 
-pub listed_within : (name : List ℕ) (limit : ℕ) (what : Limited) (next : List ℕ → Plan) → ((bytes : List ℕ) → AllListed (next bytes)) → AllListed (read_within name limit what next)
-listed_within name limit what next h files o r =
-    listed_if (nat_lt limit (length r.0)) (answer (refuses (Limit what))) (next r.0) (listed_answer (refuses (Limit what)) (refusal_listed (Limit what))) (h r.0) files o r.2
+pub listed-read : (name : List ℕ) (next : List ℕ → Plan) → ((bytes : List ℕ) → AllListed (next bytes)) → AllListed (read name next)
+listed-read name next h files o r = h r.0 files o r.2
 
-listed_judged : (fault : Option ℕ) (p : Plan) → AllListed p → AllListed (unless_faulty fault p)
-listed_judged None p h = h
-listed_judged (Some n) p h = λ files o is. subst IsListed (sym is) (record { status = omega arith; writes = λ _. refl })
+pub listed-within : (name : List ℕ) (limit : ℕ) (what : Limited) (next : List ℕ → Plan) → ((bytes : List ℕ) → AllListed (next bytes)) → AllListed (read_within name limit what next)
+listed-within name limit what next h files o r =
+    listed-if (nat_lt limit (length r.0)) (answer (refuses (Limit what))) (next r.0) (listed-answer (refuses (Limit what)) (refusal-listed (Limit what))) (h r.0) files o r.2
 
-pub listed_program : (elf input : List ℕ) (next : List ℕ → List ℕ → Plan) → ((program given : List ℕ) → AllListed (next program given)) → AllListed (read_program elf input next)
-listed_program elf input next h =
-    listed_within elf ELF_LIMIT limited.Elf _ (λ program. listed_within input INPUT_LIMIT limited.Input _ (λ given. listed_judged (first_fault program) (next program given) (h program given)))
+listed-judged : (fault : Option ℕ) (p : Plan) → AllListed p → AllListed (unless_faulty fault p)
+listed-judged None p h = h
+listed-judged (Some n) p h = λ files o is. subst IsListed (sym is) (at-most-8 _ (omega arith) (λ _. refl))
+
+pub listed-program : (elf input : List ℕ) (next : List ℕ → List ℕ → Plan) → ((program given : List ℕ) → AllListed (next program given)) → AllListed (read_program elf input next)
+listed-program elf input next h =
+    listed-within elf ELF_LIMIT limited.Elf _ (λ program. listed-within input INPUT_LIMIT limited.Input _ (λ given. listed-judged (first_fault program) (next program given) (h program given)))
 
 -- ---- from the end of a plan to the promise
 
-same_files : (o : Option Files) → option_map (λ told. with_due told []) o ≡ o
-same_files None = refl
-same_files (Some files) = refl
+same-files : (o : Option Files) → option_map (λ told. with_due told []) o ≡ o
+same-files None = refl
+same-files (Some files) = refl
 
-pub nothing_written : (s s' : ShelfView) → Leaves s s' → IsWritten [] s s'
-nothing_written s s' h = record { files = h.files ∙ sym (same_files s.files); writes = h.writes }
+pub nothing-written : (s s' : ShelfView) → Leaves s s' → IsWritten [] s s'
+nothing-written s s' h = record { files = h.files ∙ sym (same-files s.files); writes = h.writes }
 
-unwritten_files : (o : Outcome) (s s' : ShelfView) → o.writes ≡ [] → IsWritten o.writes s s' → s'.files ≡ s.files
-unwritten_files o s s' none h = h.files ∙ ap (λ writes. option_map (λ told. with_due told writes) s.files) none ∙ same_files s.files
+unwritten-files : (o : Outcome) (s s' : ShelfView) → o.writes ≡ [] → IsWritten o.writes s s' → s'.files ≡ s.files
+unwritten-files o s s' none h = h.files ∙ ap (λ writes. option_map (λ told. with_due told writes) s.files) none ∙ same-files s.files
 
-ended_status : (p : Plan) → AllListed p → (s s' : ShelfView) (status : ℕ) (text : List ℕ) → Ends p s s' status text → status ≤ 8
-ended_status p h s s' status text (done o reached is _ _) = subst (λ n. n ≤ 8) (sym is) (h s.files o reached).status
-ended_status p h s s' status text (unread is _ _ _) = omega (arith, is)
-ended_status p h s s' status text (unwritten _ _ is _ _) = omega (arith, is)
-ended_status p h s s' status text (no_memory _ is _ _) = omega (arith, is)
+ended-status : (p : Plan) → AllListed p → (s s' : ShelfView) (status : ℕ) (text : List ℕ) → Ends p s s' status text → IsStatus status
+ended-status p h s s' status text (done o reached is _ _) = subst IsStatus (sym is) (h s.files o reached).status
+ended-status p h s s' status text (unread is _ _ _) = inl (omega arith, omega (arith, is))
+ended-status p h s s' status text (unwritten _ _ is _ _) = inl (omega arith, omega (arith, is))
+ended-status p h s s' status text (no_memory _ is _ _) = inl (omega arith, omega (arith, is))
 
-ended_files : (p : Plan) → AllListed p → (s s' : ShelfView) (status : ℕ) (text : List ℕ) → Ends p s s' status text → status ≢ 0 → status ≢ 6 → s'.files ≡ s.files
-ended_files p h s s' status text (done o reached is _ written) not0 not6 = unwritten_files o s s' ((h s.files o reached).writes (λ z. not0 (is ∙ z))) written
-ended_files p h s s' status text (unread _ _ _ left) not0 not6 = left.files
-ended_files p h s s' status text (unwritten _ _ is _ _) not0 not6 = absurd (not6 is)
-ended_files p h s s' status text (no_memory _ _ _ left) not0 not6 = left.files
+ended-files : (p : Plan) → AllListed p → (s s' : ShelfView) (status : ℕ) (text : List ℕ) → Ends p s s' status text → status ≢ 0 → status ≢ 6 → s'.files ≡ s.files
+ended-files p h s s' status text (done o reached is _ written) not0 not6 = unwritten-files o s s' ((h s.files o reached).writes (λ z. not0 (is ∙ z))) written
+ended-files p h s s' status text (unread _ _ _ left) not0 not6 = left.files
+ended-files p h s s' status text (unwritten _ _ is _ _) not0 not6 = absurd (not6 is)
+ended-files p h s s' status text (no_memory _ _ _ left) not0 not6 = left.files
 
 -- over told files the contents are the told ones
-pub reaches_told : (files : Files) (p : Plan) (o : Outcome) → Reaches (Some files) p o → o ≡ outcome_over files p
-reaches_told files (read name next) o r = reaches_told files (next r.0) o r.2 ∙ ap (λ contents. outcome_over files (next contents)) r.1
-reaches_told files (answer p) o r = r
+pub reaches-told : (files : Files) (p : Plan) (o : Outcome) → Reaches (Some files) p o → o ≡ outcome_over files p
+reaches-told files (read name next) o r = reaches-told files (next r.0) o r.2 ∙ ap (λ contents. outcome_over files (next contents)) r.1
+reaches-told files (answer p) o r = r
 
-ended_told : (p : Plan) (s s' : ShelfView) (t t' : SinkView) (status : ℕ) (text : List ℕ) (result : ℕ) (files : Files) → Ends p s s' status text → result ≡ status → t'.written ≡ option_map (λ told. told ++ text) t.written
+ended-told : (p : Plan) (s s' : ShelfView) (t t' : SinkView) (status : ℕ) (text : List ℕ) (result : ℕ) (files : Files) → Ends p s s' status text → result ≡ status → t'.written ≡ option_map (λ told. told ++ text) t.written
     → s.files ≡ Some files → status ≢ 5 → status ≢ 6 → status ≢ 7 → IsOutcomeOf p files s' t t' result
-ended_told p s s' t t' status text result files (done o reached is line written) same gains told not5 not6 not7 = record {
-  status = same ∙ is ∙ ap (λ x. x.status) (reaches_told files p o (subst (λ fs. Reaches fs p o) told reached));
-  files' = written.files ∙ ap (option_map (λ fs. with_due fs o.writes)) told ∙ ap (λ x. Some (with_due files x.writes)) (reaches_told files p o (subst (λ fs. Reaches fs p o) told reached));
-  printed = gains ∙ ap (λ x. option_map (λ told. told ++ x) t.written) (line ∙ ap (λ x. x.text) (reaches_told files p o (subst (λ fs. Reaches fs p o) told reached)));
+ended-told p s s' t t' status text result files (done o reached is line written) same gains told not5 not6 not7 = record {
+  status = same ∙ is ∙ ap (λ x. x.status) (reaches-told files p o (subst (λ fs. Reaches fs p o) told reached));
+  files' = written.files ∙ ap (option_map (λ fs. with_due fs o.writes)) told ∙ ap (λ x. Some (with_due files x.writes)) (reaches-told files p o (subst (λ fs. Reaches fs p o) told reached));
+  printed = gains ∙ ap (λ x. option_map (λ told. told ++ x) t.written) (line ∙ ap (λ x. x.text) (reaches-told files p o (subst (λ fs. Reaches fs p o) told reached)));
 }
-ended_told p s s' t t' status text result files (unread is _ _ _) same gains told not5 not6 not7 = absurd (not5 is)
-ended_told p s s' t t' status text result files (unwritten _ _ is _ _) same gains told not5 not6 not7 = absurd (not6 is)
-ended_told p s s' t t' status text result files (no_memory _ is _ _) same gains told not5 not6 not7 = absurd (not7 is)
+ended-told p s s' t t' status text result files (unread is _ _ _) same gains told not5 not6 not7 = absurd (not5 is)
+ended-told p s s' t t' status text result files (unwritten _ _ is _ _) same gains told not5 not6 not7 = absurd (not6 is)
+ended-told p s s' t t' status text result files (no_memory _ is _ _) same gains told not5 not6 not7 = absurd (not7 is)
 
 pub answers : (p : Plan) → AllListed p → (s s' : ShelfView) (t t' : SinkView) (status : ℕ) (text : List ℕ) (result : ℕ) → Ends p s s' status text → Prints t t' status text result → Answers p s s' t t' result
 answers p h s s' t t' status text result e (whole is gains) = record {
@@ -103,16 +108,16 @@ answers p h s s' t t' status text result e (whole is gains) = record {
   text = text;
   ended = e;
   printed = whole is gains;
-  listed = (omega arith, subst (λ n. n ≤ 8) (sym is) (ended_status p h s s' status text e));
-  told = λ files told not5 not6 not7. ended_told p s s' t t' status text result files e is gains told (λ z. not5 (is ∙ z)) (λ z. not6 (is ∙ z)) (λ z. not7 (is ∙ z));
-  kept = λ not0 not6. ended_files p h s s' status text e (λ z. not0 (is ∙ z)) (λ z. not6 (is ∙ z));
+  listed = subst IsStatus (sym is) (ended-status p h s s' status text e);
+  told = λ files told not5 not6 not7. ended-told p s s' t t' status text result files e is gains told (λ z. not5 (is ∙ z)) (λ z. not6 (is ∙ z)) (λ z. not7 (is ∙ z));
+  kept = λ not0 not6. ended-files p h s s' status text e (λ z. not0 (is ∙ z)) (λ z. not6 (is ∙ z));
 }
 answers p h s s' t t' status text result e (torn is rose gains) = record {
   status = status;
   text = text;
   ended = e;
   printed = torn is rose gains;
-  listed = (omega (arith, is), omega (arith, is));
+  listed = inl (omega (arith, is), omega (arith, is));
   told = λ files told not5 not6 not7. absurd (not6 is);
   kept = λ not0 not6. absurd (not6 is);
 }
@@ -120,7 +125,7 @@ answers p h s s' t t' status text result e (torn is rose gains) = record {
 -- ---- how a command ended
 
 refused : (p : Plan) (s s' : ShelfView) (f : Fault) → Leaves s s' × Reaches s.files p (refuses f) → Ends p s s' (status_of f) (line_of f)
-refused p s s' f h = done (refuses f) h.1 refl refl (nothing_written s s' h.0)
+refused p s s' f h = done (refuses f) h.1 refl refl (nothing-written s s' h.0)
 
 stopped : (p : Plan) (s s' : ShelfView) (f : Fault) → Stops p s s' f → Ends p s s' (status_of f) (line_of f)
 stopped p s s' Words h = refused p s s' Words h
@@ -130,56 +135,52 @@ stopped p s s' Read h = unread refl refl h.1 h.0
 stopped p s s' Write h = unwritten h.0 h.1 refl refl h.2
 stopped p s s' Memory h = no_memory h.1 refl refl h.0
 stopped p s s' (Limit what) h = refused p s s' (Limit what) h
+stopped p s s' (Part number fault) h = refused p s s' (Part number fault) h
+stopped p s s' (Step steps) h = refused p s s' (Step steps) h
 
--- the status of a fault with a number
-numbered_status : (e : Fault) → has_number e ≡ true → (status_of e ≡ 3) ⊎ (status_of e ≡ 4)
-numbered_status (Elf e) n = inl refl
-numbered_status (Budget b) n = inr refl
-numbered_status Words n = absurd (false≢true n)
-numbered_status Read n = absurd (false≢true n)
-numbered_status Write n = absurd (false≢true n)
-numbered_status Memory n = absurd (false≢true n)
-numbered_status (Limit what) n = absurd (false≢true n)
+-- the statuses of faults with a number
+abbrev is_numbered : ℕ → Bool
+is_numbered n = n == 3 || (n == 4 || (n == 11 || n == 12))
 
--- and of one without
-bare_status : (f : Fault) → has_number f ≡ false → (status_of f ≢ 3) × (status_of f ≢ 4)
-bare_status (Elf e) n = absurd (false≢true (sym n))
-bare_status (Budget b) n = absurd (false≢true (sym n))
-bare_status Words n = (apart refl, apart refl)
-bare_status Read n = (apart refl, apart refl)
-bare_status Write n = (apart refl, apart refl)
-bare_status Memory n = (apart refl, apart refl)
-bare_status (Limit what) n = (apart refl, apart refl)
-
-statuses_apart : (x y : ℕ) → (x ≡ 3) ⊎ (x ≡ 4) → (y ≢ 3) × (y ≢ 4) → x ≢ y
-statuses_apart x y (inl three) n same = n.0 (sym same ∙ three)
-statuses_apart x y (inr four) n same = n.1 (sym same ∙ four)
+numbered-status : (f : Fault) → is_numbered (status_of f) ≡ has_number f
+numbered-status Words = refl
+numbered-status (Elf e) = refl
+numbered-status (Budget n) = refl
+numbered-status Read = refl
+numbered-status Write = refl
+numbered-status Memory = refl
+numbered-status (Limit what) = refl
+numbered-status (Part number fault) = refl
+numbered-status (Step steps) = refl
 
 -- a fault with a number is no fault without one
-numbered_apart : (e f : Fault) → has_number e ≡ true → has_number f ≡ false → refuses e ≢ refuses f
-numbered_apart e f numbered none same = statuses_apart (status_of e) (status_of f) (numbered_status e numbered) (bare_status f none) (ap (λ o. o.status) same)
+numbered-apart : (e f : Fault) → has_number e ≡ true → has_number f ≡ false → refuses e ≢ refuses f
+numbered-apart e f numbered none same =
+    false≢true (sym (sym numbered ∙ sym (numbered-status e) ∙ ap (λ o. is_numbered o.status) same ∙ numbered-status f ∙ none))
 
-numbered_takes : (p : Plan) (files : Option Files) (e : Fault) → has_number e ≡ true → Reaches files p (refuses e) → TakesMemory p
-numbered_takes (read name next) files e numbered reached = tt
-numbered_takes (answer o) files e numbered reached = λ f none is. numbered_apart e f numbered none (reached ∙ is)
+numbered-takes : (p : Plan) (files : Option Files) (e : Fault) → has_number e ≡ true → Reaches files p (refuses e) → TakesMemory p
+numbered-takes (read name next) files e numbered reached = tt
+numbered-takes (answer o) files e numbered reached = λ f none is. numbered-apart e f numbered none (reached ∙ is)
 
 -- a fault with a number has changed no file, and its line takes memory
 unnumbered : (p : Plan) (s s' : ShelfView) (f : Fault) → has_number f ≡ true → Stops p s s' f → Leaves s s' × TakesMemory p
-unnumbered p s s' (Elf e) n h = (h.0, numbered_takes p s.files (Elf e) n h.1)
-unnumbered p s s' (Budget b) n h = (h.0, numbered_takes p s.files (Budget b) n h.1)
+unnumbered p s s' (Elf e) n h = (h.0, numbered-takes p s.files (Elf e) n h.1)
+unnumbered p s s' (Budget b) n h = (h.0, numbered-takes p s.files (Budget b) n h.1)
+unnumbered p s s' (Part number fault) n h = (h.0, numbered-takes p s.files (Part number fault) n h.1)
+unnumbered p s s' (Step steps) n h = (h.0, numbered-takes p s.files (Step steps) n h.1)
 unnumbered p s s' Words n h = absurd (false≢true n)
 unnumbered p s s' Read n h = absurd (false≢true n)
 unnumbered p s s' Write n h = absurd (false≢true n)
 unnumbered p s s' Memory n h = absurd (false≢true n)
 unnumbered p s s' (Limit what) n h = absurd (false≢true n)
 
-pub fault_answers : (p : Plan) → AllListed p → (s s' : ShelfView) (t t' : SinkView) (f : Fault) (result : ℕ) → Stops p s s' f → PrintsFault t t' f result → Answers p s s' t t' result
-fault_answers p h s s' t t' f result stops (inl printed) = answers p h s s' t t' (status_of f) (line_of f) result (stopped p s s' f stops) printed
-fault_answers p h s s' t t' f result stops (inr (numbered, printed)) =
+pub fault-answers : (p : Plan) → AllListed p → (s s' : ShelfView) (t t' : SinkView) (f : Fault) (result : ℕ) → Stops p s s' f → PrintsFault t t' f result → Answers p s s' t t' result
+fault-answers p h s s' t t' f result stops (inl printed) = answers p h s s' t t' (status_of f) (line_of f) result (stopped p s s' f stops) printed
+fault-answers p h s s' t t' f result stops (inr (numbered, printed)) =
     let k = unnumbered p s s' f numbered stops in
     answers p h s s' t t' 7 (line_of Memory) result (no_memory k.1 refl refl k.0) printed
 
 -- ---- for the call that tells
 
-pub told_answers : (p : Plan) → AllListed p → (s s' : ShelfView) (t t' : SinkView) (told : Told) (result : ℕ) → Performs p s s' (Ok told) → Prints t t' told.status told.text result → Answers p s s' t t' result
-told_answers p h s s' t t' told result performs printed = answers p h s s' t t' told.status told.text result (done performs.0 performs.1 performs.2 performs.3 performs.4) printed
+pub told-answers : (p : Plan) → AllListed p → (s s' : ShelfView) (t t' : SinkView) (told : Told) (result : ℕ) → Performs p s s' (Ok told) → Prints t t' told.status told.text result → Answers p s s' t t' result
+told-answers p h s s' t t' told result performs printed = answers p h s s' t t' told.status told.text result (done performs.0 performs.1 performs.2 performs.3 performs.4) printed

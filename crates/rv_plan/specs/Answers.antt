@@ -1,5 +1,5 @@
 -- What is promised of a call that carries a plan out and tells how it ended: its status, what it prints, and the files.
-use Rattle.std.specs.Prelude.{◌≡◌, ◌≢◌, ◌⊎◌, ℕ, ◌≤◌, IsTrue, List, [], ◌++◌, Option, Some}
+use Rattle.std.specs.Prelude.{◌≡◌, ◌≢◌, ◌⊎◌, ℕ, IsTrue, List, [], ◌++◌, Option, Some}
 use Rattle.std.specs.Option.{option_map}
 use Rattle.std.specs.Int.{IsInRange}
 use Rattle.rv_host.specs.Counts.{Rose}
@@ -28,9 +28,13 @@ pub record IsOutcomeOf (plan : Plan) (files : Files) (shelf' : ShelfView) (sink 
   pub files' : shelf'.files ≡ Some (with_due files (outcome_over files plan).writes)
   pub printed : sink'.written ≡ option_map (λ told. told ++ (outcome_over files plan).text) sink.written
 
+-- the statuses of the table
+abbrev pub IsStatus : ℕ → Type 0
+IsStatus n = IsInRange 0 8 n ⊎ IsInRange 11 12 n
+
 -- An outcome has a status of the table, and writes nothing unless it is a success.
 pub record IsListed (o : Outcome) : Type 0 where
-  pub status : o.status ≤ 8
+  pub status : IsStatus o.status
   pub writes : o.status ≢ 0 → o.writes ≡ []
 
 -- each outcome that a plan may reach
@@ -43,8 +47,7 @@ pub record Answers (plan : Plan) (shelf shelf' : ShelfView) (sink sink' : SinkVi
   pub text : List ℕ
   pub ended : Ends plan shelf shelf' status text
   pub printed : Prints sink sink' status text result
-  -- the statuses of the table
-  pub listed : IsInRange 0 8 result
+  pub listed : IsStatus result
   -- where the files are told, only failures and want of memory keep from the outcome over them
   pub told : (files : Files) → shelf.files ≡ Some files → result ≢ 5 → result ≢ 6 → result ≢ 7 → IsOutcomeOf plan files shelf' sink sink' result
   -- only success and a failed write may change a file

@@ -24,3 +24,9 @@ budget_line budget = line (codes "fault budget " ++ decimal budget)
 
 abbrev pub limit_line : List ℕ → List ℕ
 limit_line what = line (codes "fault limit " ++ what)
+
+abbrev pub part_line : ℕ → List ℕ → List ℕ
+part_line number what = line (codes "fault part " ++ decimal number ++ 32 ∷ what)
+
+abbrev pub step_line : ℕ → List ℕ
+step_line steps = line (codes "fault step " ++ decimal steps)

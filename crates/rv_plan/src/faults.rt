@@ -2,8 +2,8 @@
 
 ghost use Rattle.std.specs.Prelude.{◌≡◌, IfOk, IsTrue, MatchOption, string_bytes};
 ghost use Rattle.rv_elf.specs.Faults.{number_of};
-ghost use Rattle.rv_plan.specs.Lines.{name_at, fault_names, elf_line as elf_line_of};
-ghost use Rattle.rv_plan.specs.Faults.{status_of, line_of, has_number};
+ghost use Rattle.rv_plan.specs.Lines.{name_at, fault_names, elf_line as elf_line_of, part_line as part_line_of};
+ghost use Rattle.rv_plan.specs.Faults.{status_of, line_of, has_number, what_of};
 
 use rv_base::{NoMemory, Text};
 use rv_elf::ElfFault;
@@ -20,6 +20,21 @@ pub enum Limited {
     Record,
     /// 65,536 shards of a run.
     Shards,
+    /// As many parts of a record as it has shards.
+    Parts,
+}
+
+/// Why a file is not the part of a record that its number says.
+#[derive(Clone, Copy, Debug)]
+pub enum PartFault {
+    /// It doesn't begin with the head of that part.
+    Head,
+    /// Behind the head it doesn't begin with the record's header and output.
+    Front,
+    /// Its shards don't follow those of the parts before, or the parts don't cover the record's shards.
+    Cover,
+    /// It ends elsewhere than its shards do.
+    Cut,
 }
 
 /// Why a command ended without doing its work.
@@ -39,6 +54,10 @@ pub enum Fault {
     Memory,
     /// A file, or what a run needs, is above its limit.
     Limit(Limited),
+    /// The part of this number has a fault.
+    Part(u32, PartFault),
+    /// A step is asked for that the record doesn't have; it has this number of steps.
+    Step(u64),
 }
 
 impl Fault {
@@ -54,6 +73,8 @@ impl Fault {
             Fault::Write => 6,
             Fault::Memory => 7,
             Fault::Limit(_) => 8,
+            Fault::Part(_, _) => 11,
+            Fault::Step(_) => 12,
         }
     }
 
@@ -63,7 +84,7 @@ impl Fault {
     {
         match self {
             Fault::Words => Some("fault words\n"),
-            Fault::Elf(_) | Fault::Budget(_) => None,
+            Fault::Elf(_) | Fault::Budget(_) | Fault::Part(_, _) | Fault::Step(_) => None,
             Fault::Read => Some("fault read\n"),
             Fault::Write => Some("fault write\n"),
             Fault::Memory => Some("fault memory\n"),
@@ -71,6 +92,7 @@ impl Fault {
             Fault::Limit(Limited::Input) => Some("fault limit input\n"),
             Fault::Limit(Limited::Record) => Some("fault limit record\n"),
             Fault::Limit(Limited::Shards) => Some("fault limit shards\n"),
+            Fault::Limit(Limited::Parts) => Some("fault limit parts\n"),
         }
     }
 
@@ -82,6 +104,8 @@ impl Fault {
         let line = match self {
             Fault::Elf(fault) => elf_line(alloc, *fault),
             Fault::Budget(steps) => format!(in alloc; "fault budget {steps}\n"),
+            Fault::Part(number, fault) => part_line(alloc, *number, *fault),
+            Fault::Step(steps) => format!(in alloc; "fault step {steps}\n"),
             _ => unreachable!(),
         };
         match line {
@@ -98,6 +122,26 @@ fn elf_line(alloc: Global, fault: ElfFault) -> Result<String, AllocError>
     let name = fault_name(fault);
     let line = format!(in alloc; "fault elf {number} {name}\n")?;
     Ok(line)
+}
+
+fn part_line(alloc: Global, number: u32, fault: PartFault) -> Result<String, AllocError>
+    ensures { IfOk result (λ text. string_bytes text ≡ part_line_of number (what_of fault)) }
+{
+    let what = part_fault_name(fault);
+    let line = format!(in alloc; "fault part {number} {what}\n")?;
+    Ok(line)
+}
+
+/// The name of a fault of a part, as the line prints it.
+fn part_fault_name(fault: PartFault) -> &'static str
+    ensures { result.now ≡ what_of fault }
+{
+    match fault {
+        PartFault::Head => "head",
+        PartFault::Front => "front",
+        PartFault::Cover => "cover",
+        PartFault::Cut => "cut",
+    }
 }
 
 /// The name of a fault of an ELF file, as the line prints it.

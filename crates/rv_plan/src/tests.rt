@@ -1,7 +1,7 @@
 //! Shapes of commands, over files in memory: a text of several lines, a refusal with a verdict, many files, and reads up to a limit.
 
 use crate::telling::tell;
-use crate::{DueFile, Fault, Limited, Told, read_within, write_files};
+use crate::{DueFile, Fault, Limited, PartFault, Told, read_within, write_files};
 use rv_base::Text;
 use rv_host::{MemShelf, MemSink};
 use std::process::Abort;
@@ -51,6 +51,27 @@ fn a_verdict_is_told_with_its_own_status(rt: HostRuntime) -> Result<(), Fail> {
         8
     );
     assert_eq!(rt; sink.bytes(), b"fault limit record\n".as_slice());
+    Ok(())
+}
+
+#[test]
+fn faults_with_names_and_numbers_are_told_so(rt: HostRuntime) -> Result<(), Fail> {
+    for (fault, status, line) in [
+        (Fault::Limit(Limited::Parts), 8, "fault limit parts\n"),
+        (Fault::Part(1, PartFault::Head), 11, "fault part 1 head\n"),
+        (
+            Fault::Part(63, PartFault::Front),
+            11,
+            "fault part 63 front\n",
+        ),
+        (Fault::Part(0, PartFault::Cover), 11, "fault part 0 cover\n"),
+        (Fault::Part(2, PartFault::Cut), 11, "fault part 2 cut\n"),
+        (Fault::Step(3), 12, "fault step 3\n"),
+    ] {
+        let mut sink = MemSink::new(rt.alloc());
+        assert_eq!(rt; tell(rt.alloc(), &mut sink, Err(fault)), status);
+        assert!(rt; sink.bytes() == line.as_bytes(), "{line}");
+    }
     Ok(())
 }
 

@@ -38,17 +38,17 @@ module _ (i : Image) (input : List ℕ) (n : ℕ) (e : End) (ends : EndsIn i inp
     begins : j * size < n
     begins = begins-within n size j some inside
 
-    as_many : steps_from i input (j * size) size ≡ shard_rows size n j
-    as_many = steps-left size (j * size) begins
+    as-many : steps_from i input (j * size) size ≡ shard_rows size n j
+    as-many = steps-left size (j * size) begins
 
     pub piece-is-shard : IsShardOfRecord lanes i input size n j
     piece-is-shard = record {
       has = λ k less. ends.before k (let first : j * size < n = begins in omega arith);
-      rows = as_many;
-      bytes = ap (λ m. shard_bytes (shard_of lanes i input j (j * size) m)) as_many;
-      reads = ap (λ m. (shard_of lanes i input j (j * size) m).reads) as_many;
-      writes = ap (λ m. (shard_of lanes i input j (j * size) m).writes) as_many;
-      place = ap (λ m. place_at i input (j * size + m)) as_many;
+      rows = as-many;
+      bytes = ap (λ m. shard_bytes (shard_of lanes i input j (j * size) m)) as-many;
+      reads = ap (λ m. (shard_of lanes i input j (j * size) m).reads) as-many;
+      writes = ap (λ m. (shard_of lanes i input j (j * size) m).writes) as-many;
+      place = ap (λ m. place_at i input (j * size + m)) as-many;
     }
 
 pub pieces-are-shards : PiecesAreShards

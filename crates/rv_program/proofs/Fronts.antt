@@ -2,18 +2,18 @@
 use Rattle.std.proofs.Common.{◌≡◌, ℕ, ◌≤◌, List, ◌++◌, length, take, drop, sym, ap, ◌∙◌, arith}
 use Rattle.std.proofs.lemmas.List.{take-append-le, take-append-drop, length-take-le}
 use Rattle.rv_rules.specs.Reading.{header_of}
-use Rattle.rv_reading.proofs.Lemmas.{header_front}
+use Rattle.rv_reading.proofs.Lemmas.{header-front}
 
 -- the header in the first 173 bytes of a file is that of the file
-pub header_in_front : (file front : List ℕ) → 173 ≤ length file → front ≡ take 173 file → header_of front ≡ header_of file
-header_in_front file front room is =
+pub header-in-front : (file front : List ℕ) → 173 ≤ length file → front ≡ take 173 file → header_of front ≡ header_of file
+header-in-front file front room is =
     let size : 173 ≤ length front = omega (arith, ap length is, length-take-le 173 file room) in
-    sym (header_front front (drop 173 file) size)
+    sym (header-front front (drop 173 file) size)
     ∙ ap header_of (ap (λ (xs : List ℕ). xs ++ drop 173 file) is ∙ take-append-drop 173 file)
 
 -- and so are its first eight bytes
-pub magic_in_front : (file front : List ℕ) → 173 ≤ length file → front ≡ take 173 file → take 8 front ≡ take 8 file
-magic_in_front file front room is =
+pub magic-in-front : (file front : List ℕ) → 173 ≤ length file → front ≡ take 173 file → take 8 front ≡ take 8 file
+magic-in-front file front room is =
     let size : 173 ≤ length front = omega (arith, ap length is, length-take-le 173 file room) in
     sym (take-append-le 8 front (drop 173 file) (omega (arith, size)))
     ∙ ap (take 8) (ap (λ (xs : List ℕ). xs ++ drop 173 file) is ∙ take-append-drop 173 file)

@@ -9,13 +9,13 @@ use Rattle.rv_spec.specs.Cells.{initial_value, value}
 use Rattle.rv_elf.specs.Loaded.{loaded}
 use Rattle.rv_rules.proofs.Lemmas.{initial-register}
 
-pub in_memory : (i : Image) (c : ℕ) → c < 1073741824 → initial_value i c ≡ word (loaded i) c
+pub in-memory : (i : Image) (c : ℕ) → c < 1073741824 → initial_value i c ≡ word (loaded i) c
 unfolding value
-in_memory i c lt = ap (λ b. if b then word (loaded i) c else (if c == 1073741856 then 0 else register (start i) (c - 1073741824))) (lt-ltb c 1073741824 lt)
+in-memory i c lt = ap (λ b. if b then word (loaded i) c else (if c == 1073741856 then 0 else register (start i) (c - 1073741824))) (lt-ltb c 1073741824 lt)
 
-pub in_stack_pointer : (i : Image) → initial_value i 1073741826 ≡ 0x7FFFF000
+pub in-stack-pointer : (i : Image) → initial_value i 1073741826 ≡ 0x7FFFF000
 unfolding value
-in_stack_pointer i = refl
+in-stack-pointer i = refl
 
 pub elsewhere : (i : Image) (c : ℕ) → 1073741824 ≤ c → c ≢ 1073741826 → initial_value i c ≡ 0
 elsewhere i c le other =

@@ -8,7 +8,7 @@ use Rattle.std.proofs.lemmas.Grind.{flat_map-append}
 use Rattle.rv_spec.specs.Trace.{Row}
 use Rattle.rv_spec.specs.Record.{Shard, Parts, all_rows}
 use Rattle.rv_spec.specs.Grammar.{PartsFit}
-use Rattle.rv_text.proofs.Lemmas.{rows_in, rows_exact, sized, BeginsWith}
+use Rattle.rv_text.proofs.Lemmas.{rows_in, rows-exact, sized, BeginsWith}
 use Rattle.rv_query.specs.Accesses.{numbered}
 use Rattle.rv_query.specs.Following.{GoPast, BehindRows, BeginWithRow}
 use Rattle.rv_query.specs.declared.trail.Trail.{Trail}
@@ -24,7 +24,7 @@ module _ (p : Parts) (fit : PartsFit p) where
 
   -- the rows before a shard
   pub rows-before : (k : ℕ) → k < length p.shards → length (front k) ≡ k * size
-  rows-before k lt = rows_exact p.header 0 p.shards k fit.shards lt (let less : k * size < p.header.steps = (sized p fit).less k (omega (arith, lt, fit.count)) in omega (arith, less))
+  rows-before k lt = rows-exact p.header 0 p.shards k fit.shards lt (let less : k * size < p.header.steps = (sized p fit).less k (omega (arith, lt, fit.count)) in omega (arith, less))
 
   front-more : (k : ℕ) (s : Shard) → take (k + 1) p.shards ≡ take k p.shards ++ s ∷ [] → front (k + 1) ≡ front k ++ s.rows
   front-more k s is = ap rows_in is ∙ flat_map-append (λ (t : Shard). t.rows) (take k p.shards) (s ∷ []) ∙ ap (λ l. front k ++ l) (append-nil s.rows)

@@ -20,11 +20,11 @@ use Rattle.rv_spec.specs.Conclusion.{IsRecord, IsCollision}
 use Rattle.rv_rules.specs.Verdict.{judge, verdict_of}
 use Rattle.rv_rules.specs.Laws.{AcceptedIsRecord}
 use Rattle.rv_rules.specs.Chain.{value_before}
-use Rattle.rv_rules.proofs.Lemmas.{left_true}
+use Rattle.rv_rules.proofs.Lemmas.{left-true}
 use Rattle.rv_isa.proofs.Lemmas.{holds-last-uses}
-use Rattle.rv_file.proofs.Lemmas.{form_is_grammar, ok_is}
+use Rattle.rv_file.proofs.Lemmas.{form-is-grammar, ok-is}
 use Rattle.rv_sound.specs.Accepted.{ReadsAccepted}
-use Rattle.rv_sound.proofs.RecordAccepted.{record-spells}
+use Rattle.rv_sound.proofs.Lemmas.{record-spells}
 use Rattle.rv_query.specs.Accesses.{Numbered, own_time, numbered, accesses_before, last_access}
 use Rattle.rv_query.specs.Questions.{cell_seen, register_seen, state_seen, image_of, cell_answer, state_answer, snapshot}
 use Rattle.rv_query.specs.OfRun.{Accepts, cell_of_run}
@@ -62,7 +62,7 @@ value-left initial xs c s hi rise = ap (λ p. cond (p == 0) (initial c) (left_at
     go None e = refl
     go (Some a) e =
         let stands = of-filter (counts c s) a xs (latest-in (accesses_before xs c s) a e) in
-        let cell : a.access.cell ≡ c = eqb-true a.access.cell c (left_true (a.access.cell == c) (nat_lt (own_time a) (time_of s 0)) stands.1) in
+        let cell : a.access.cell ≡ c = eqb-true a.access.cell c (left-true (a.access.cell == c) (nat_lt (own_time a) (time_of s 0)) stands.1) in
         let some : (own_time a == 0) ≡ false = ne_eqb (own_time a) 0 (λ z. (let above : 1 ≤ own_time a = rise-above 1 hi xs rise a stands.0 in absurd (omega (arith, above, z)))) in
         ap (λ b. cond b (initial c) (left_at (map left_by xs) c (own_time a))) some ∙ ap (λ k. left_at (map left_by xs) k (own_time a)) (sym cell) ∙ left-at 1 hi xs rise a stands.0
 
@@ -131,7 +131,7 @@ accepted (Err d) steps shards end is = absurd cc
 
 -- a file spells one list of parts
 one-spelling : (file : List ℕ) (p q : Parts) → AreBytes file → Spells p file → Spells q file → q ≡ p
-one-spelling file p q bytes one other = ok_is q p (sym ((form_is_grammar file q bytes).1 other) ∙ (form_is_grammar file p bytes).1 one)
+one-spelling file p q bytes one other = ok-is q p (sym ((form-is-grammar file q bytes).1 other) ∙ (form-is-grammar file p bytes).1 one)
 
 -- the rows of an accepted file are those of the trace, or it is a collision
 pub rows-of-run : (lanes : Lanes) (elf input file : List ℕ) (p : Parts) → first_fault elf ≡ None → AreBytes elf → AreBytes input

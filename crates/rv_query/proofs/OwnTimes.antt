@@ -11,7 +11,7 @@ use Rattle.rv_spec.specs.Visits.{Use, visit, visits, step_uses}
 use Rattle.rv_spec.specs.Trace.{history, access, row, rows, left_at}
 use Rattle.rv_rules.specs.Chain.{at}
 use Rattle.rv_rules.specs.Membership.{In}
-use Rattle.rv_rules.proofs.Lemmas.{at-is, right_true}
+use Rattle.rv_rules.proofs.Lemmas.{at-is, right-true}
 use Rattle.rv_isa.specs.Ranges.{Rises}
 use Rattle.rv_isa.proofs.Lemmas.{step-slots-rise}
 use Rattle.rv_query.specs.Accesses.{Numbered, own_time, numbered}
@@ -71,7 +71,7 @@ left-at lo hi (x ∷ xs) r a (inl same) =
 left-at lo hi (x ∷ xs) r a (inr m) =
     let later : own_time x + 1 ≤ own_time a = rise-above (own_time x + 1) hi xs r.1 a m in
     let fails : at a.access.cell (own_time a) (left_by x) ≡ false = elim (at a.access.cell (own_time a) (left_by x)) as (λ b. at a.access.cell (own_time a) (left_by x) ≡ b → b ≡ false) [
-      | true ↦ λ e. absurd (omega (arith, later, eqb-true (own_time x) (own_time a) (right_true (x.access.cell == a.access.cell) (own_time x == own_time a) e)))
+      | true ↦ λ e. absurd (omega (arith, later, eqb-true (own_time x) (own_time a) (right-true (x.access.cell == a.access.cell) (own_time x == own_time a) e)))
       | false ↦ λ e. refl
     ] refl in
     ap (λ b. unwrap_or (option_map (λ z. z.value) (cond b (Some (left_by x)) (find (at a.access.cell (own_time a)) (map left_by xs)))) 0) fails ∙ left-at (own_time x + 1) hi xs r.1 a m

@@ -6,7 +6,7 @@ use Rattle.rv_spec.specs.Trace.{Row}
 use Rattle.rv_spec.specs.Record.{row_bytes, row_length}
 use Rattle.rv_spec.specs.Grammar.{RowFits}
 use Rattle.rv_row.proofs.Lemmas.{length-row_bytes}
-use Rattle.rv_text.proofs.Lemmas.{at_place}
+use Rattle.rv_text.proofs.Lemmas.{at-place}
 use Rattle.rv_query.specs.Accesses.{Numbered, numbered}
 use Rattle.rv_query.specs.Following.{GoPast, BehindRows, BeginWithRow}
 use Rattle.rv_query.specs.declared.trail.Trail.{Trail}
@@ -30,7 +30,7 @@ pub past-row : (first s step k n : ℕ) (rs : List Row) (tail rest : List ℕ) (
     → GoPast first s us vs (of_row (step + k) row)
     → (drop n rest ≡ flat_map row_bytes (drop (k + 1) rs) ++ tail) × GoPast first s ts vs (numbered step (take (k + 1) rs))
 past-row first s step k n rs tail rest row ts us vs fit lt is before only here =
-    let at = at_place RowFits rs k lt fit in
+    let at = at-place RowFits rs k lt fit in
     let x : Row = at.0 in
     let more : List ℕ = flat_map row_bytes at.1 ++ tail in
     let begins : rest ≡ row_bytes x ++ more = is ∙ ap (λ l. flat_map row_bytes l ++ tail) at.2.from ∙ append_assoc (row_bytes x) (flat_map row_bytes at.1) tail in
@@ -53,7 +53,7 @@ place-found (y ∷ xs) (suc k) x ys e = place-found xs k x ys e
 -- bytes behind some rows, but not all, begin with the next one
 pub next-begins : (rs : List Row) (k : ℕ) (bytes : List ℕ) → k < length rs → BehindRows rs k bytes → BeginWithRow rs k bytes
 next-begins rs k bytes lt b =
-    let at = at_place RowFits rs k lt b.fit in
+    let at = at-place RowFits rs k lt b.fit in
     record {
       row = at.0;
       rest = flat_map row_bytes at.1 ++ b.rest;

@@ -13,8 +13,7 @@ use Rattle.rv_spec.specs.Visits.{Visit, visits}
 use Rattle.rv_spec.specs.Trace.{Row, tuples_left, history, access, row, rows}
 use Rattle.rv_spec.specs.Digest.{Lanes}
 use Rattle.rv_spec.specs.Record.{all_rows, shard, shard_rows, record_parts}
-use Rattle.rv_sound.proofs.Shards.{shard-starts, shards-suffice}
-use Rattle.rv_sound.proofs.ListLemmas.{rows-split}
+use Rattle.rv_sound.proofs.Lemmas.{shard-starts, shards-suffice, rows-split}
 use Rattle.rv_query.specs.Accesses.{Numbered, own_time, numbered}
 use Rattle.rv_query.proofs.Rows.{of_row}
 

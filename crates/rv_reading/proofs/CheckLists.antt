@@ -7,22 +7,22 @@ use Rattle.rv_rules.specs.Checks.{Check, first_broken, refused_by, unless_broken
 
 -- ---- what a list of checks answers
 
-pub refused_by_ok : {A : Type 0} (i r : ℕ) (o : Option ℕ) (a b : A) → refused_by i r o a ≡ Ok b → (o ≡ None) × (a ≡ b)
-refused_by_ok i r None a b e = (refl, cc)
-refused_by_ok i r (Some rule) a b e = absurd cc
+pub refused-by-ok : {A : Type 0} (i r : ℕ) (o : Option ℕ) (a b : A) → refused_by i r o a ≡ Ok b → (o ≡ None) × (a ≡ b)
+refused-by-ok i r None a b e = (refl, cc)
+refused-by-ok i r (Some rule) a b e = absurd cc
 
-pub refused_by_err : {A : Type 0} (i r : ℕ) (o : Option ℕ) (a : A) (e : Refusal) → refused_by i r o a ≡ Err e → (rule : ℕ) × (o ≡ Some rule) × (record { shard = i; row = r; rule = rule } ≡ e)
-refused_by_err i r None a e is = absurd cc
-refused_by_err i r (Some rule) a e is = (rule, refl, cc)
+pub refused-by-err : {A : Type 0} (i r : ℕ) (o : Option ℕ) (a : A) (e : Refusal) → refused_by i r o a ≡ Err e → (rule : ℕ) × (o ≡ Some rule) × (record { shard = i; row = r; rule = rule } ≡ e)
+refused-by-err i r None a e is = absurd cc
+refused-by-err i r (Some rule) a e is = (rule, refl, cc)
 
 -- each check holds
 abbrev pub AllHold : List Check → Type 0
 AllHold [] = Unit {0}
 AllHold (c ∷ cs) = (c.1 ≡ true) × AllHold cs
 
-pub all_hold : (cs : List Check) → first_broken cs ≡ None → AllHold cs
-all_hold [] e = tt
-all_hold (c ∷ cs) e = go c.1 refl e (all_hold cs)
+pub all-hold : (cs : List Check) → first_broken cs ≡ None → AllHold cs
+all-hold [] e = tt
+all-hold (c ∷ cs) e = go c.1 refl e (all-hold cs)
   where
     go : (b : Bool) → c.1 ≡ b → cond b (first_broken cs) (Some c.0) ≡ None → (first_broken cs ≡ None → AllHold cs) → AllHold (c ∷ cs)
     go true f g later = (f, later g)
@@ -89,7 +89,7 @@ Keeps-append (m ∷ ms) cs ds k = (refl, λ t. (t, Keeps-append ms cs ds k), λ 
 -- a refusal by another rule than 1 is kept
 pub Keeps-refusal : {A B : Type 0} (i r : ℕ) (cs ds : List Check) (a : A) (b : B) (e : Refusal) → Keeps cs ds → unless_broken i r cs a ≡ Err e → ¬ (e.rule ≡ 1) → unless_broken i r ds b ≡ Err e
 Keeps-refusal i r cs ds a b e k is not =
-    let o = refused_by_err i r (first_broken cs) a e is in
+    let o = refused-by-err i r (first_broken cs) a e is in
     let rule : o.0 ≡ e.rule = ap (λ (z : Refusal). z.rule) o.2 in
     ap (λ x. refused_by i r x b) (Keeps-some cs ds o.0 k o.1 (λ one. not (sym rule ∙ one))) ∙ ap (λ (z : Refusal). Err z) o.2
 

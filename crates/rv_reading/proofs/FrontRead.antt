@@ -13,10 +13,10 @@ use Rattle.rv_rules.specs.Reading.{header_of, header_checks, when_complete}
 use Rattle.rv_reading.specs.Stream.{State, reads}
 use Rattle.rv_reading.specs.Machine.{Phase, step, first_phase, opened, told}
 use Rattle.rv_reading.specs.Judging.{IsFront, FrontIsJudged, VerdictBehindFront, RefusedAtFront, FrontStaysRefused}
-use Rattle.rv_reading.proofs.CheckLists.{refused_by_err, Keeps, Keeps-append, Keeps-room, Keeps-refusal, Passed, Passed-first_broken, Passed-room, Passed-append}
-use Rattle.rv_reading.proofs.Fronts.{header_front}
-use Rattle.rv_reading.proofs.Binding.{checks_bind, checks_refuse}
-use Rattle.rv_reading.proofs.FileRead.{verdict_is_told}
+use Rattle.rv_reading.proofs.CheckLists.{refused-by-err, Keeps, Keeps-append, Keeps-room, Keeps-refusal, Passed, Passed-first_broken, Passed-room, Passed-append}
+use Rattle.rv_reading.proofs.Fronts.{header-front}
+use Rattle.rv_reading.proofs.Binding.{checks-bind, checks-refuse}
+use Rattle.rv_reading.proofs.FileRead.{verdict-is-told}
 
 module _ (complete : Bool) (lanes : Lanes) (elf input : List ℕ) where
   -- the checks of a header but those of rule 1
@@ -31,23 +31,23 @@ module _ (complete : Bool) (lanes : Lanes) (elf input : List ℕ) where
       ∷ (8, nat_le h.length 67108864)
       ∷ []
 
-  room_same : (n m : ℕ) (xs ys : List ℕ) → n ≤ length xs → m ≡ n → nat_le m (length (xs ++ ys)) ≡ nat_le n (length xs)
-  room_same n m xs ys le is = le-leb m (length (xs ++ ys)) (omega (arith, le, is, length-append xs ys)) ∙ sym (le-leb n (length xs) le)
+  room-same : (n m : ℕ) (xs ys : List ℕ) → n ≤ length xs → m ≡ n → nat_le m (length (xs ++ ys)) ≡ nat_le n (length xs)
+  room-same n m xs ys le is = le-leb m (length (xs ++ ys)) (omega (arith, le, is, length-append xs ys)) ∙ sym (le-leb n (length xs) le)
 
-  checks_front : (xs ys : List ℕ) → 173 + (header_of xs).length ≤ length xs → header_checks complete lanes elf input (xs ++ ys) ≡ header_checks complete lanes elf input xs
-  checks_front xs ys le =
-      let h = header_front xs ys (omega (arith, le)) in
+  checks-front : (xs ys : List ℕ) → 173 + (header_of xs).length ≤ length xs → header_checks complete lanes elf input (xs ++ ys) ≡ header_checks complete lanes elf input xs
+  checks-front xs ys le =
+      let h = header-front xs ys (omega (arith, le)) in
       let first = take-append-le 8 xs ys (omega (arith, le)) in
-      let fixed = room_same 173 173 xs ys (omega (arith, le)) refl in
-      let whole = room_same (173 + (header_of xs).length) (173 + (header_of (xs ++ ys)).length) xs ys le (ap (λ (z : Header). 173 + z.length) h) in
+      let fixed = room-same 173 173 xs ys (omega (arith, le)) refl in
+      let whole = room-same (173 + (header_of xs).length) (173 + (header_of (xs ++ ys)).length) xs ys le (ap (λ (z : Header). 173 + z.length) h) in
       λ t. (1, fixed t) ∷ middle (h t) (first t) ++ (1, whole t) ∷ []
 
-  keeps_header : (xs ys : List ℕ) → Keeps (header_checks complete lanes elf input xs) (header_checks complete lanes elf input (xs ++ ys))
-  keeps_header xs ys =
+  keeps-header : (xs ys : List ℕ) → Keeps (header_checks complete lanes elf input xs) (header_checks complete lanes elf input (xs ++ ys))
+  keeps-header xs ys =
       let last : Header → List ℕ → List Check = λ h zs. (1, nat_le (173 + h.length) (length zs)) ∷ [] in
       let rest : List ℕ → List Check = λ zs. middle (header_of zs) (take 8 zs) ++ last (header_of zs) zs in
       Keeps-room 173 173 xs ys (rest xs) (rest (xs ++ ys)) refl (λ le.
-      let h = header_front xs ys le in
+      let h = header-front xs ys le in
       let first = take-append-le 8 xs ys (omega (arith, le)) in
       let mid : middle (header_of xs) (take 8 xs) ≡ middle (header_of (xs ++ ys)) (take 8 (xs ++ ys)) = λ t. middle (sym h t) (sym first t) in
       subst (λ (ms : List Check). Keeps (rest xs) (ms ++ last (header_of (xs ++ ys)) (xs ++ ys))) mid
@@ -55,23 +55,23 @@ module _ (complete : Bool) (lanes : Lanes) (elf input : List ℕ) where
       (Keeps-room (173 + (header_of xs).length) (173 + (header_of (xs ++ ys)).length) xs ys [] [] (ap (λ (z : Header). 173 + z.length) (sym h)) (λ _. tt))))
 
   -- a front has bytes enough for its header and output
-  passed_header : (front : List ℕ) → IsFront front → Passed (header_checks complete lanes elf input front)
-  passed_header front size =
+  passed-header : (front : List ℕ) → IsFront front → Passed (header_checks complete lanes elf input front)
+  passed-header front size =
       let h = header_of front in
       let last : List Check = (1, nat_le (173 + h.length) (length front)) ∷ [] in
       Passed-room 173 front (middle h (take 8 front) ++ last) (omega (arith, size))
       (Passed-append (middle h (take 8 front)) last refl (Passed-room (173 + h.length) front [] (omega (arith, size)) tt))
 
-  pub front_has_room : (front : List ℕ) (r : Refusal) → IsFront front → opened complete lanes elf input front ≡ Err r → ¬ (r.rule ≡ 1)
-  front_has_room front r size e one =
+  pub front-has-room : (front : List ℕ) (r : Refusal) → IsFront front → opened complete lanes elf input front ≡ Err r → ¬ (r.rule ≡ 1)
+  front-has-room front r size e one =
       let checks = header_checks complete lanes elf input front in
-      let o = refused_by_err 0 0 (first_broken checks) (first_phase complete lanes elf input (header_of front), []) r e in
-      Passed-first_broken checks o.0 (passed_header front size) o.1 (ap (λ (z : Refusal). z.rule) o.2 ∙ one)
+      let o = refused-by-err 0 0 (first_broken checks) (first_phase complete lanes elf input (header_of front), []) r e in
+      Passed-first_broken checks o.0 (passed-header front size) o.1 (ap (λ (z : Refusal). z.rule) o.2 ∙ one)
 
 -- Header and output in front, and then any bytes.
-pub front_is_judged : FrontIsJudged
-front_is_judged complete lanes elf input front bytes size =
-    let h = header_front front bytes (omega (arith, size)) in
+pub front-is-judged : FrontIsJudged
+front-is-judged complete lanes elf input front bytes size =
+    let h = header-front front bytes (omega (arith, size)) in
     let output = drop 173 front in
     let behind : drop 173 (front ++ bytes) ≡ output ++ bytes = drop-append-le 173 front bytes (omega (arith, size)) in
     let n = (header_of (front ++ bytes)).length in
@@ -79,28 +79,28 @@ front_is_judged complete lanes elf input front bytes size =
     let taken : take n (drop 173 (front ++ bytes)) ≡ output = ap (λ (z : List ℕ). take n z) behind ∙ take_at output bytes n long in
     let left : drop n (drop 173 (front ++ bytes)) ≡ bytes = ap (λ (z : List ℕ). drop n z) behind ∙ drop_at output bytes n long in
     let go : Header → List ℕ → List ℕ → State Phase = λ g out rest. reads (step complete lanes elf input g out) (first_phase complete lanes elf input g) rest in
-    ap (λ cs. unless_broken 0 0 cs (drop 173 (front ++ bytes)) >>= λ z. go (header_of (front ++ bytes)) (take n z) (drop n z)) (checks_front complete lanes elf input front bytes (omega (arith, size)))
-    ∙ checks_bind 0 0 (header_checks complete lanes elf input front) (drop 173 (front ++ bytes)) (first_phase complete lanes elf input (header_of front), [])
+    ap (λ cs. unless_broken 0 0 cs (drop 173 (front ++ bytes)) >>= λ z. go (header_of (front ++ bytes)) (take n z) (drop n z)) (checks-front complete lanes elf input front bytes (omega (arith, size)))
+    ∙ checks-bind 0 0 (header_checks complete lanes elf input front) (drop 173 (front ++ bytes)) (first_phase complete lanes elf input (header_of front), [])
     (λ z. go (header_of (front ++ bytes)) (take n z) (drop n z)) (λ x. reads (step complete lanes elf input (header_of front) output) x.0 (x.1 ++ bytes)) (λ t. go (h t) (taken t) (left t))
 
 -- The verdict on a file that begins with this header and output.
-pub verdict_behind_front : VerdictBehindFront
-verdict_behind_front lanes elf input front bytes size =
+pub verdict-behind-front : VerdictBehindFront
+verdict-behind-front lanes elf input front bytes size =
     let long : IsFront front = size in
-    verdict_is_told lanes elf input (front ++ bytes)
-    ∙ (λ t. told (header_front front bytes (let le : 173 ≤ length front = omega (arith, size) in le) t) (front_is_judged true lanes elf input front bytes long t))
+    verdict-is-told lanes elf input (front ++ bytes)
+    ∙ (λ t. told (header-front front bytes (let le : 173 ≤ length front = omega (arith, size) in le) t) (front-is-judged true lanes elf input front bytes long t))
 
 -- A file whose header or output is refused is refused so.
-pub refused_at_front : RefusedAtFront
-refused_at_front complete lanes elf input file r refused =
+pub refused-at-front : RefusedAtFront
+refused-at-front complete lanes elf input file r refused =
     let h = header_of file in
-    checks_refuse 0 0 (header_checks complete lanes elf input file) (first_phase complete lanes elf input h, []) (drop 173 file)
+    checks-refuse 0 0 (header_checks complete lanes elf input file) (first_phase complete lanes elf input h, []) (drop 173 file)
     (λ z. reads (step complete lanes elf input h (take h.length z)) (first_phase complete lanes elf input h) (drop h.length z)) r refused
 
 -- A front that is refused by another rule than 1 is refused so, whatever follows.
-pub front_stays_refused : FrontStaysRefused
-front_stays_refused complete lanes elf input front bytes r refused not =
+pub front-stays-refused : FrontStaysRefused
+front-stays-refused complete lanes elf input front bytes r refused not =
     let file = front ++ bytes in
-    refused_at_front complete lanes elf input file r
+    refused-at-front complete lanes elf input file r
     (Keeps-refusal 0 0 (header_checks complete lanes elf input front) (header_checks complete lanes elf input file)
-    (first_phase complete lanes elf input (header_of front), []) (first_phase complete lanes elf input (header_of file), []) r (keeps_header complete lanes elf input front bytes) refused not)
+    (first_phase complete lanes elf input (header_of front), []) (first_phase complete lanes elf input (header_of file), []) r (keeps-header complete lanes elf input front bytes) refused not)

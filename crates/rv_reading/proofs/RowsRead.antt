@@ -16,7 +16,7 @@ use Rattle.rv_reading.specs.Machine.{Sums, Inside, Phase, Extent, on_if, with_ro
 use Rattle.rv_reading.specs.Machine.Phase.{Rows}
 use Rattle.rv_reading.specs.Parts.{runs, inside, RowsAreRead}
 use Rattle.rv_reading.proofs.StepStream.{runs-step}
-use Rattle.rv_reading.proofs.Binding.{bind_assoc, bind_same, checks_bind}
+use Rattle.rv_reading.proofs.Binding.{bind-assoc, bind-same, checks-bind}
 use Rattle.rv_reading.proofs.RunningSums.{with_events-sums}
 
 module _ (complete : Bool) (lanes : Lanes) (elf input : List ℕ) (h : Header) (output : List ℕ) (extent : Extent) where
@@ -29,29 +29,29 @@ module _ (complete : Bool) (lanes : Lanes) (elf input : List ℕ) (h : Header) (
   abbrev put_row : Reading Row → Reading (List Row) → Reading (List Row)
   put_row first others = record { part = first.part ∷ others.part; place = others.place; left = others.left }
 
-  row_step : (n r m i : ℕ) (s : Inside) (p : Place) (all : Sums) (bytes : List ℕ)
+  row-step : (n r m i : ℕ) (s : Inside) (p : Place) (all : Sums) (bytes : List ℕ)
       → run (Rows (suc n) r m i s p all) bytes
       ≡ (on_if i r (row_form bytes ++ row_checks_when_complete complete lanes elf input h output (row_of bytes) (i * h.size + r) p)
       (Rows n (r + 1) m i (with_row complete lanes s (i * h.size + r) (row_of bytes)) (next_place complete lanes elf input h (row_of bytes) p) all) (drop (9 + 21 * get_or bytes 8 0) bytes)
       >>= onwards run (Rows (suc n) r m i s p all, bytes))
   unfolding step
-  row_step n r m i s p all bytes = runs-step complete lanes elf input h output extent (Rows (suc n) r m i s p all) bytes
+  row-step n r m i s p all bytes = runs-step complete lanes elf input h output extent (Rows (suc n) r m i s p all) bytes
 
-  row_is : (i r : ℕ) (p : Place) (bytes : List ℕ)
+  row-is : (i r : ℕ) (p : Place) (bytes : List ℕ)
       → read_row complete lanes elf input h output i r p bytes
       ≡ unless_broken i r (row_form bytes ++ row_checks_when_complete complete lanes elf input h output (row_of bytes) (i * h.size + r) p)
       (record { part = row_of bytes; place = next_place complete lanes elf input h (row_of bytes) p; left = drop (9 + 21 * get_or bytes 8 0) bytes })
   unfolding read_row
-  row_is i r p bytes = refl
+  row-is i r p bytes = refl
 
-  pub rows_read : (n r m i total : ℕ) (head : ShardHead) (size : ℕ) (es : List Event) (p : Place) (all : Sums) (bytes : List ℕ) → r + n ≡ total
+  pub rows-read : (n r m i total : ℕ) (head : ShardHead) (size : ℕ) (es : List Event) (p : Place) (all : Sums) (bytes : List ℕ) → r + n ≡ total
       → run (Rows n r m i (inside complete lanes elf input h output head size es) p all) bytes ≡ (read_rows complete lanes elf input n h output i r p bytes >>= behind_rows (i * h.size + r) total m i head size es all)
   unfolding read_rows
-  rows_read zero r m i total head size es p all bytes sum =
+  rows-read zero r m i total head size es p all bytes sum =
       let at : r ≡ total = omega (arith, sum) in
       let same : size ≡ size + 0 = omega arith in
       λ t. run (Rows zero (at t) m i (inside complete lanes elf input h output head (same t) (sym (append-nil es) t)) p all) bytes
-  rows_read (suc n) r m i total head size es p all bytes sum =
+  rows-read (suc n) r m i total head size es p all bytes sum =
       let k = i * h.size + r in
       let row = row_of bytes in
       let cs = row_form bytes ++ row_checks_when_complete complete lanes elf input h output row k p in
@@ -73,14 +73,14 @@ module _ (complete : Bool) (lanes : Lanes) (elf input : List ℕ) (h : Header) (
       λ t. run (Rows zero total m i (inside complete lanes elf input h output head (sizes t) (list t)) x.place all) x.left in
       let inner : run (Rows n (r + 1) m i (with_row complete lanes before k row) after all) rest ≡ (whole one >>= next) =
       ap (λ z. run (Rows n (r + 1) m i z after all) rest) with
-      ∙ rows_read n (r + 1) m i total head (size + row_length row) (es ++ ev) after all rest (omega (arith, sum))
-      ∙ bind_same (rows_from one) (behind_rows (i * h.size + (r + 1)) total m i head (size + row_length row) (es ++ ev) all) (λ x. next (put_row one x)) later
-      ∙ sym (bind_assoc (rows_from one) (λ others. Ok (put_row one others)) next) in
-      row_step n r m i before p all bytes
-      ∙ checks_bind i r cs (Some (Rows n (r + 1) m i (with_row complete lanes before k row) after all, rest)) one (onwards run (Rows (suc n) r m i before p all, bytes)) (λ first. whole first >>= next) inner
-      ∙ sym (bind_assoc (unless_broken i r cs one) whole next)
-      ∙ sym (ap (λ z. (z >>= whole) >>= next) (row_is i r p bytes))
+      ∙ rows-read n (r + 1) m i total head (size + row_length row) (es ++ ev) after all rest (omega (arith, sum))
+      ∙ bind-same (rows_from one) (behind_rows (i * h.size + (r + 1)) total m i head (size + row_length row) (es ++ ev) all) (λ x. next (put_row one x)) later
+      ∙ sym (bind-assoc (rows_from one) (λ others. Ok (put_row one others)) next) in
+      row-step n r m i before p all bytes
+      ∙ checks-bind i r cs (Some (Rows n (r + 1) m i (with_row complete lanes before k row) after all, rest)) one (onwards run (Rows (suc n) r m i before p all, bytes)) (λ first. whole first >>= next) inner
+      ∙ sym (bind-assoc (unless_broken i r cs one) whole next)
+      ∙ sym (ap (λ z. (z >>= whole) >>= next) (row-is i r p bytes))
 
 -- The law of rows.
-pub rows_are_read : (complete : Bool) (lanes : Lanes) (elf input : List ℕ) (h : Header) (output : List ℕ) → RowsAreRead complete lanes elf input h output
-rows_are_read complete lanes elf input h output extent n r m i head size es p all bytes = rows_read complete lanes elf input h output extent n r m i (r + n) head size es p all bytes refl
+pub rows-are-read : (complete : Bool) (lanes : Lanes) (elf input : List ℕ) (h : Header) (output : List ℕ) → RowsAreRead complete lanes elf input h output
+rows-are-read complete lanes elf input h output extent n r m i head size es p all bytes = rows-read complete lanes elf input h output extent n r m i (r + n) head size es p all bytes refl

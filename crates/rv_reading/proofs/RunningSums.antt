@@ -41,11 +41,11 @@ module _ (complete : Bool) (lanes : Lanes) where
   no_sums-sums = λ t. record { reads = none complete t; writes = none complete t }
 
 -- where digests are judged, those that are held are those of the lists
-pub stated_alike : (a : Bool) (stated written d e : List ℕ)
+pub stated-alike : (a : Bool) (stated written d e : List ℕ)
     → (not a || (bytes_eq stated (cond a d (replicate 16 0)) && bytes_eq written (cond a e (replicate 16 0)))) ≡ (not a || (bytes_eq stated d && bytes_eq written e))
-stated_alike true stated written d e = refl
-stated_alike false stated written d e = refl
+stated-alike true stated written d e = refl
+stated-alike false stated written d e = refl
 
-pub equal_alike : (a : Bool) (d e : List ℕ) → (not a || bytes_eq (cond a d (replicate 16 0)) (cond a e (replicate 16 0))) ≡ (not a || bytes_eq d e)
-equal_alike true d e = refl
-equal_alike false d e = refl
+pub equal-alike : (a : Bool) (d e : List ℕ) → (not a || bytes_eq (cond a d (replicate 16 0)) (cond a e (replicate 16 0))) ≡ (not a || bytes_eq d e)
+equal-alike true d e = refl
+equal-alike false d e = refl

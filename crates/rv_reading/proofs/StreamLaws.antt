@@ -12,25 +12,25 @@ abbrev refusal : (P : Type 0) → Refusal → Found P
 refusal P r = Err r
 
 module _ {P : Type 0} where
-  patient_goes : (s : Found P) (x : P × List ℕ) → with_patience s ≡ Ok (Some x) → s ≡ Ok (Some x)
-  patient_goes (Ok y) x e = e
-  patient_goes (Err r) x e = go (r.rule == 1) e
+  patient-goes : (s : Found P) (x : P × List ℕ) → with_patience s ≡ Ok (Some x) → s ≡ Ok (Some x)
+  patient-goes (Ok y) x e = e
+  patient-goes (Err r) x e = go (r.rule == 1) e
     where
       go : (b : Bool) → cond {A = Found P} b (Ok None) (Err r) ≡ Ok (Some x) → Err r ≡ Ok (Some x)
       go true f = absurd cc
       go false f = f
 
   -- it refuses by another rule than 1
-  patient_refuses : (s : Found P) (r : Refusal) → with_patience s ≡ Err r → (s ≡ Err r) × (¬ (r.rule ≡ 1))
-  patient_refuses (Ok y) r e = absurd cc
-  patient_refuses (Err t) r e = go (t.rule == 1) refl e
+  patient-refuses : (s : Found P) (r : Refusal) → with_patience s ≡ Err r → (s ≡ Err r) × (¬ (r.rule ≡ 1))
+  patient-refuses (Ok y) r e = absurd cc
+  patient-refuses (Err t) r e = go (t.rule == 1) refl e
     where
       go : (b : Bool) → (t.rule == 1) ≡ b → cond {A = Found P} b (Ok None) (Err t) ≡ Err r → (refusal P t ≡ Err r) × (¬ (r.rule ≡ 1))
       go true f g = absurd cc
       go false f g = let same : t ≡ r = cc in (g, λ one. eqb-false t.rule 1 f (ap (λ (z : Refusal). z.rule) same ∙ one))
 
-  pub patient_stays : (r : Refusal) → ¬ (r.rule ≡ 1) → with_patience (refusal P r) ≡ Err r
-  patient_stays r not = go (r.rule == 1) refl
+  pub patient-stays : (r : Refusal) → ¬ (r.rule ≡ 1) → with_patience (refusal P r) ≡ Err r
+  patient-stays r not = go (r.rule == 1) refl
     where
       go : (b : Bool) → (r.rule == 1) ≡ b → cond {A = Found P} b (Ok None) (Err r) ≡ Err r
       go true e = absurd (not (eqb-true r.rule 1 e))
@@ -71,9 +71,9 @@ module _ {P : Type 0} (step : StepOf P) (is : IsStream P step) where
   pub reads-stops : (p : P) (xs rest : List ℕ) (r : Refusal) → step p xs ≡ Err r → ¬ (r.rule ≡ 1) → reads step p (xs ++ rest) ≡ Err r
   reads-stops p xs rest r e not = reads-step_is p (xs ++ rest) (Err r) (is.stays p xs rest r e not)
 
-  ends_in : (n : ℕ) (p : P) (xs : List ℕ) (x : P × List ℕ) → length xs < n → reads step p xs ≡ Ok x → step x.0 x.1 ≡ Ok None
-  ends_in zero p xs x a e = absurd (omega (arith, a))
-  ends_in (suc n) p xs x a e = go (step p xs) refl (sym (reads-step p xs) ∙ e) (ends_in n)
+  ends-in : (n : ℕ) (p : P) (xs : List ℕ) (x : P × List ℕ) → length xs < n → reads step p xs ≡ Ok x → step x.0 x.1 ≡ Ok None
+  ends-in zero p xs x a e = absurd (omega (arith, a))
+  ends-in (suc n) p xs x a e = go (step p xs) refl (sym (reads-step p xs) ∙ e) (ends-in n)
     where
       go : (s : Found P) → step p xs ≡ s → (s >>= onwards (reads step) (p, xs)) ≡ Ok x
           → ((q : P) (zs : List ℕ) (y : P × List ℕ) → length zs < n → reads step q zs ≡ Ok y → step y.0 y.1 ≡ Ok None) → step x.0 x.1 ≡ Ok None
@@ -82,15 +82,15 @@ module _ {P : Type 0} (step : StepOf P) (is : IsStream P step) where
       go (Ok (Some y)) f g later = let less = is.takes p y.0 xs y.1 f in later y.0 y.1 x (omega (arith, less, a)) g
 
   -- Reading ends where the step says that it may.
-  reads_ends : (p : P) (xs : List ℕ) (x : P × List ℕ) → reads step p xs ≡ Ok x → step x.0 x.1 ≡ Ok None
-  reads_ends p xs x e = ends_in (suc (length xs)) p xs x (omega arith) e
+  reads-ends : (p : P) (xs : List ℕ) (x : P × List ℕ) → reads step p xs ≡ Ok x → step x.0 x.1 ≡ Ok None
+  reads-ends p xs x e = ends-in (suc (length xs)) p xs x (omega arith) e
 
   -- the step that waits for bytes is a stream too
   patient-is_stream : IsStream P (patient step)
   patient-is_stream = record {
-    takes = λ p q xs rest e. is.takes p q xs rest (patient_goes (step p xs) (q, rest) e);
-    goes = λ p q xs rest ys e. ap with_patience (is.goes p q xs rest ys (patient_goes (step p xs) (q, rest) e));
-    stays = λ p xs ys r e not. ap with_patience (is.stays p xs ys r (patient_refuses (step p xs) r e).0 not) ∙ patient_stays r not;
+    takes = λ p q xs rest e. is.takes p q xs rest (patient-goes (step p xs) (q, rest) e);
+    goes = λ p q xs rest ys e. ap with_patience (is.goes p q xs rest ys (patient-goes (step p xs) (q, rest) e));
+    stays = λ p xs ys r e not. ap with_patience (is.stays p xs ys r (patient-refuses (step p xs) r e).0 not) ∙ patient-stays r not;
   }
 
   -- the step that ends where a test holds is a stream too
@@ -121,9 +121,9 @@ record IsFollowed {P : Type 0} (step other : StepOf P) : Type 0 where
   stays : (p : P) (xs ys : List ℕ) (r : Refusal) → step p xs ≡ Err r → other p (xs ++ ys) ≡ Err r
 
 module _ {P : Type 0} (step other : StepOf P) (is : IsStream P step) (others : IsStream P other) (follows : IsFollowed step other) where
-  joined_in : (n : ℕ) (p : P) (xs ys : List ℕ) → length xs < n → (reads step p xs >>= λ x. reads other x.0 (x.1 ++ ys)) ≡ reads other p (xs ++ ys)
-  joined_in zero p xs ys a = absurd (omega (arith, a))
-  joined_in (suc n) p xs ys a = ap (λ z. z >>= λ x. reads other x.0 (x.1 ++ ys)) (reads-step step is p xs) ∙ go (step p xs) refl (joined_in n)
+  joined-in : (n : ℕ) (p : P) (xs ys : List ℕ) → length xs < n → (reads step p xs >>= λ x. reads other x.0 (x.1 ++ ys)) ≡ reads other p (xs ++ ys)
+  joined-in zero p xs ys a = absurd (omega (arith, a))
+  joined-in (suc n) p xs ys a = ap (λ z. z >>= λ x. reads other x.0 (x.1 ++ ys)) (reads-step step is p xs) ∙ go (step p xs) refl (joined-in n)
     where
       go : (s : Found P) → step p xs ≡ s → ((q : P) (zs us : List ℕ) → length zs < n → (reads step q zs >>= λ x. reads other x.0 (x.1 ++ us)) ≡ reads other q (zs ++ us))
           → ((s >>= onwards (reads step) (p, xs)) >>= λ x. reads other x.0 (x.1 ++ ys)) ≡ reads other p (xs ++ ys)
@@ -135,7 +135,7 @@ module _ {P : Type 0} (step other : StepOf P) (is : IsStream P step) (others : I
 
   -- reading as far as one step goes, and on from there by the other
   joined : (p : P) (xs ys : List ℕ) → (reads step p xs >>= λ x. reads other x.0 (x.1 ++ ys)) ≡ reads other p (xs ++ ys)
-  joined p xs ys = joined_in (suc (length xs)) p xs ys (omega arith)
+  joined p xs ys = joined-in (suc (length xs)) p xs ys (omega arith)
 
 module _ {P : Type 0} (step : StepOf P) (is : IsStream P step) where
   waits : IsStream P (patient step)
@@ -149,7 +149,7 @@ module _ {P : Type 0} (step : StepOf P) (is : IsStream P step) where
       follows : IsFollowed (patient step) (patient step)
       follows = record {
         goes = λ p xs ys y e. waits.goes p y.0 xs y.1 ys e;
-        stays = λ p xs ys r e. waits.stays p xs ys r e (patient_refuses (step p xs) r e).1;
+        stays = λ p xs ys r e. waits.stays p xs ys r e (patient-refuses (step p xs) r e).1;
       }
 
   settle-outcome : (p : P) (xs ys : List ℕ) → outcome step (settle step p xs) ys ≡ reads step p (xs ++ ys)
@@ -157,8 +157,8 @@ module _ {P : Type 0} (step : StepOf P) (is : IsStream P step) where
     where
       follows : IsFollowed (patient step) step
       follows = record {
-        goes = λ q zs us y e. is.goes q y.0 zs y.1 us (patient_goes (step q zs) y e);
-        stays = λ q zs us r e. let told = patient_refuses (step q zs) r e in is.stays q zs us r told.0 told.1;
+        goes = λ q zs us y e. is.goes q y.0 zs y.1 us (patient-goes (step q zs) y e);
+        stays = λ q zs us r e. let told = patient-refuses (step q zs) r e in is.stays q zs us r told.0 told.1;
       }
 
   -- What comes of the state after a piece is what comes of the state before, with the piece in front.
@@ -168,40 +168,40 @@ module _ {P : Type 0} (step : StepOf P) (is : IsStream P step) where
 
   -- ---- what a state tells
 
-  never_one_in : (n : ℕ) (p : P) (xs : List ℕ) (r : Refusal) → length xs < n → settle step p xs ≡ Err r → ¬ (r.rule ≡ 1)
-  never_one_in zero p xs r a e = absurd (omega (arith, a))
-  never_one_in (suc n) p xs r a e = go (patient step p xs) refl (sym (reads-step (patient step) waits p xs) ∙ e) (never_one_in n)
+  never-one-in : (n : ℕ) (p : P) (xs : List ℕ) (r : Refusal) → length xs < n → settle step p xs ≡ Err r → ¬ (r.rule ≡ 1)
+  never-one-in zero p xs r a e = absurd (omega (arith, a))
+  never-one-in (suc n) p xs r a e = go (patient step p xs) refl (sym (reads-step (patient step) waits p xs) ∙ e) (never-one-in n)
     where
       go : (s : Found P) → patient step p xs ≡ s → (s >>= onwards (settle step) (p, xs)) ≡ Err r
           → ((q : P) (zs : List ℕ) (t : Refusal) → length zs < n → settle step q zs ≡ Err t → ¬ (t.rule ≡ 1)) → ¬ (r.rule ≡ 1)
-      go (Err t) f g later = (patient_refuses (step p xs) r (f ∙ ap (λ (z : Refusal). Err z) (let same : t ≡ r = cc in same))).1
+      go (Err t) f g later = (patient-refuses (step p xs) r (f ∙ ap (λ (z : Refusal). Err z) (let same : t ≡ r = cc in same))).1
       go (Ok None) f g later = absurd cc
       go (Ok (Some x)) f g later = let less = waits.takes p x.0 xs x.1 f in later x.0 x.1 r (omega (arith, less, a)) g
 
   -- A state that refuses does so by another rule than 1, and whatever bytes come are refused so.
-  pub state_refuses : (p : P) (xs : List ℕ) (r : Refusal) → settle step p xs ≡ Err r → (¬ (r.rule ≡ 1)) × ((ys : List ℕ) → reads step p (xs ++ ys) ≡ Err r)
-  state_refuses p xs r e = (never_one_in (suc (length xs)) p xs r (omega arith) e, λ ys. sym (settle-outcome p xs ys) ∙ ap (λ s. outcome step s ys) e)
+  pub state-refuses : (p : P) (xs : List ℕ) (r : Refusal) → settle step p xs ≡ Err r → (¬ (r.rule ≡ 1)) × ((ys : List ℕ) → reads step p (xs ++ ys) ≡ Err r)
+  state-refuses p xs r e = (never-one-in (suc (length xs)) p xs r (omega arith) e, λ ys. sym (settle-outcome p xs ys) ∙ ap (λ s. outcome step s ys) e)
 
   -- A state that doesn't refuse waits with the bytes that it holds.
-  pub state_waits : (p : P) (xs : List ℕ) (x : P × List ℕ) → settle step p xs ≡ Ok x → patient step x.0 x.1 ≡ Ok None
-  state_waits p xs x e = reads_ends (patient step) waits p xs x e
+  pub state-waits : (p : P) (xs : List ℕ) (x : P × List ℕ) → settle step p xs ≡ Ok x → patient step x.0 x.1 ≡ Ok None
+  state-waits p xs x e = reads-ends (patient step) waits p xs x e
 
   -- What waits is refused by rule 1, or not at all.
-  pub waiting_refused : (p : P) (xs : List ℕ) (r : Refusal) → patient step p xs ≡ Ok None → reads step p xs ≡ Err r → r.rule ≡ 1
-  waiting_refused p xs r waiting e = go (step p xs) waiting (sym (reads-step step is p xs) ∙ e)
+  pub waiting-refused : (p : P) (xs : List ℕ) (r : Refusal) → patient step p xs ≡ Ok None → reads step p xs ≡ Err r → r.rule ≡ 1
+  waiting-refused p xs r waiting e = go (step p xs) waiting (sym (reads-step step is p xs) ∙ e)
     where
-      by_one : (t : Refusal) (b : Bool) → (t.rule == 1) ≡ b → cond {A = Found P} b (Ok None) (Err t) ≡ Ok None → t.rule ≡ 1
-      by_one t true f g = eqb-true t.rule 1 f
-      by_one t false f g = absurd cc
+      by-one : (t : Refusal) (b : Bool) → (t.rule == 1) ≡ b → cond {A = Found P} b (Ok None) (Err t) ≡ Ok None → t.rule ≡ 1
+      by-one t true f g = eqb-true t.rule 1 f
+      by-one t false f g = absurd cc
 
       go : (s : Found P) → with_patience s ≡ Ok None → (s >>= onwards (reads step) (p, xs)) ≡ Err r → r.rule ≡ 1
       go (Ok None) f g = absurd cc
       go (Ok (Some y)) f g = absurd cc
-      go (Err t) f g = let same : r ≡ t = cc in ap (λ (z : Refusal). z.rule) same ∙ by_one t (t.rule == 1) refl f
+      go (Err t) f g = let same : r ≡ t = cc in ap (λ (z : Refusal). z.rule) same ∙ by-one t (t.rule == 1) refl f
 
   -- Where the bytes so far are refused by another rule than 1, the state refuses so.
-  pub state_tells : (p : P) (xs : List ℕ) (r : Refusal) → reads step p xs ≡ Err r → ¬ (r.rule ≡ 1) → settle step p xs ≡ Err r
-  state_tells p xs r e not = go (settle step p xs) refl
+  pub state-tells : (p : P) (xs : List ℕ) (r : Refusal) → reads step p xs ≡ Err r → ¬ (r.rule ≡ 1) → settle step p xs ≡ Err r
+  state-tells p xs r e not = go (settle step p xs) refl
     where
       whole : outcome step (settle step p xs) [] ≡ Err r
       whole = settle-outcome p xs [] ∙ ap (λ bytes. reads step p bytes) (append-nil xs) ∙ e
@@ -210,4 +210,4 @@ module _ {P : Type 0} (step : StepOf P) (is : IsStream P step) where
       go (Err t) f = f ∙ sym (ap (λ s. outcome step s []) f) ∙ whole
       go (Ok x) f =
           let held : reads step x.0 x.1 ≡ Err r = sym (ap (λ bytes. reads step x.0 bytes) (append-nil x.1)) ∙ sym (ap (λ s. outcome step s []) f) ∙ whole in
-          absurd (not (waiting_refused x.0 x.1 r (state_waits p xs x f) held))
+          absurd (not (waiting-refused x.0 x.1 r (state-waits p xs x f) held))

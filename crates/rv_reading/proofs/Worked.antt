@@ -28,9 +28,9 @@ move = step true tiny_lanes elf [] (header_of front) []
 abbrev opening : State Phase
 opening = opened true tiny_lanes elf [] front
 
-is_front : IsFront front
+is-front : IsFront front
 unfolding computes judges
-is_front = refl
+is-front = refl
 
 -- in two pieces, cut within the second row
 accepted : told (header_of front) (outcome move (feed move (feed move opening (take 100 body)) (drop 100 body)) []) ≡ Accept 3 1 (record { kind = 0; code = 42 })
@@ -38,9 +38,9 @@ unfolding computes judges step reads_in
 accepted = refl
 
 -- the same bytes and one more, which comes alone
-one_more : outcome move (feed move (feed move opening body) (0 ∷ [])) [] ≡ Err (record { shard = 1; row = 5; rule = 27 })
+one-more : outcome move (feed move (feed move opening body) (0 ∷ [])) [] ≡ Err (record { shard = 1; row = 5; rule = 27 })
 unfolding computes judges step reads_in
-one_more = refl
+one-more = refl
 
 -- The second row's last new value is changed: the state refuses as soon as the row is there, and before that it waits with what it has of the row.
 abbrev changed : List ℕ

@@ -71,5 +71,5 @@ below32 bytes at fits = wide32.below (drop at bytes) (drop-bytes at bytes fits)
 pub below64 : (bytes : List ℕ) (at : ℕ) → AreBytes bytes → number_at w64 bytes at < 2 ^ 64
 below64 bytes at fits = wide64.below (drop at bytes) (drop-bytes at bytes fits)
 
-pub byte_at_front : (bytes : List ℕ) (at end : ℕ) → at + 1 ≡ end → end ≤ length bytes → get_or bytes at 0 ∷ drop end bytes ≡ drop at bytes
-byte_at_front bytes at end ends room = sym (drop_more bytes at 0 (omega arith) ∙ ap (λ n. get_or bytes at 0 ∷ drop n bytes) ends)
+pub byte-at-front : (bytes : List ℕ) (at end : ℕ) → at + 1 ≡ end → end ≤ length bytes → get_or bytes at 0 ∷ drop end bytes ≡ drop at bytes
+byte-at-front bytes at end ends room = sym (drop_more bytes at 0 (omega arith) ∙ ap (λ n. get_or bytes at 0 ∷ drop n bytes) ends)

@@ -13,7 +13,7 @@ use Rattle.rv_spec.specs.Decode.{AnyInstr, rv32im, rv32a, decode_any}
 use Rattle.rv_spec.specs.Step.{load_width, store_width, within_word}
 use Rattle.rv_rules.specs.Expected.{Expected, on_register, on_buffer, splice, operand, reads_one, reads_two, goes_to, ends, pc_plus_4, jumps, moves, argument_touches, expected_return, expected_read, expected_write, expected_call, expected_instr, atomic_writes, misaligned_kind, expected_atomic, expected_any, expected}
 
-module _ (pc : ℕ) (is_aligned : pc % 4 ≡ 0) (input : List ℕ) (at : ℕ) (is_within : at ≤ length input) where
+module _ (pc : ℕ) (is_aligned : pc % 4 ≡ 0) (input : List ℕ) (at : ℕ) (is-within : at ≤ length input) where
   -- the next instruction has an address, and no byte is taken past the input's end
   pub record Leads (e : Expected) : Type 0 where
     pub aligned : e.next % 4 ≡ 0

@@ -25,23 +25,23 @@ cuts = refl
 abbrev flipped : ℕ → Verdict
 flipped at = verdict tiny_lanes elf [] (set tiny_file at (bit_xor (slice_index tiny_file at) 0x80))
 
-in_header : map flipped (0 ∷ 7 ∷ 8 ∷ 72 ∷ 138 ∷ 140 ∷ 151 ∷ 152 ∷ 153 ∷ 157 ∷ 165 ∷ 166 ∷ 168 ∷ [])
+in-header : map flipped (0 ∷ 7 ∷ 8 ∷ 72 ∷ 138 ∷ 140 ∷ 151 ∷ 152 ∷ 153 ∷ 157 ∷ 165 ∷ 166 ∷ 168 ∷ [])
     ≡ refused 0 0 2 ∷ refused 0 0 2 ∷ refused 0 0 3 ∷ refused 0 0 4 ∷ refused 0 0 5 ∷ refused 0 0 6 ∷ refused 0 0 6 ∷ refused 0 0 7 ∷ refused 0 2 19 ∷ refused 1 5 25
     ∷ refused 0 0 9 ∷ refused 0 0 1 ∷ refused 0 0 8 ∷ []
 unfolding computes judges
-in_header = refl
+in-header = refl
 
-another_size : flipped 136 ≡ Accept 3 1 (record { kind = 0; code = 42 })
+another-size : flipped 136 ≡ Accept 3 1 (record { kind = 0; code = 42 })
 unfolding computes judges
-another_size = refl
+another-size = refl
 
-in_shard : map flipped (173 ∷ 200 ∷ 201 ∷ 204 ∷ 256 ∷ 260 ∷ 264 ∷ 265 ∷ 266 ∷ 274 ∷ 282 ∷ 270 ∷ 271 ∷ 272 ∷ 273 ∷ 321 ∷ 342 ∷ 363 ∷ [])
+in-shard : map flipped (173 ∷ 200 ∷ 201 ∷ 204 ∷ 256 ∷ 260 ∷ 264 ∷ 265 ∷ 266 ∷ 274 ∷ 282 ∷ 270 ∷ 271 ∷ 272 ∷ 273 ∷ 321 ∷ 342 ∷ 363 ∷ [])
     ≡ refused 0 0 9 ∷ refused 0 0 9 ∷ refused 0 3 20 ∷ refused 0 3 20 ∷ refused 0 1 11 ∷ refused 0 1 16 ∷ refused 0 1 10 ∷ refused 0 1 12 ∷ refused 0 1 13 ∷ refused 0 1 15 ∷ refused 0 1 14
     ∷ refused 0 1 13 ∷ refused 0 1 12 ∷ refused 0 1 14 ∷ refused 0 1 14 ∷ refused 0 2 12 ∷ refused 0 2 12 ∷ refused 0 2 14 ∷ []
 unfolding computes judges
-in_shard = refl
+in-shard = refl
 
-in_table : map flipped (635 ∷ 639 ∷ 641 ∷ 642 ∷ 655 ∷ 658 ∷ 674 ∷ 690 ∷ [])
+in-table : map flipped (635 ∷ 639 ∷ 641 ∷ 642 ∷ 655 ∷ 658 ∷ 674 ∷ 690 ∷ [])
     ≡ refused 1 5 1 ∷ refused 1 1 22 ∷ refused 1 1 22 ∷ refused 1 0 23 ∷ refused 1 2 22 ∷ refused 1 1 23 ∷ refused 1 2 23 ∷ refused 1 3 23 ∷ []
 unfolding computes judges
-in_table = refl
+in-table = refl

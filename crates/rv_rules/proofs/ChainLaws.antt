@@ -8,9 +8,9 @@ use Rattle.rv_spec.specs.Trace.{last_use, left_at, last_entry, rising, table_of}
 use Rattle.rv_spec.specs.Tuples.{Event, tuple_read, tuple_written, tuple_last, tuple_first, all_read, all_written}
 use Rattle.rv_spec.specs.Multiset.{Same, count}
 use Rattle.rv_rules.specs.Chain.{AllDiffer, AreOrdered, IsChain, at, value_before}
-use Rattle.rv_rules.proofs.Conjunctions.{both_true, left_true, right_true}
+use Rattle.rv_rules.proofs.Conjunctions.{both-true, left-true, right-true}
 use Rattle.rv_rules.specs.Membership.{In}
-use Rattle.rv_rules.proofs.ChainCore.{in-map, in-count, count-in, at-is, Agree, read_in, last_read}
+use Rattle.rv_rules.proofs.ChainCore.{in-map, in-count, count-in, at-is, Agree, read-in, last-read}
 use Rattle.rv_rules.proofs.Members.{in-append, in-left, in-right, in-map-back, all-in, all-of, same-rising, rising-in, in-rising, rising-rises}
 use Rattle.rv_rules.proofs.OwnTimes.{written-once}
 
@@ -58,14 +58,14 @@ pub last_use-is : (ts : List Tuple) (c t p : ℕ) → ((w : Tuple) → In w ts �
 unfolding last_use
 last_use-is ts c t p most some =
     let low : top 0 c t ts ≤ p = top-le 0 p c t ts (omega arith)
-    (λ w m e. most w m (eqb-true w.cell c (left_true (w.cell == c) (nat_lt w.time t) e)) (ltb-true w.time t (right_true (w.cell == c) (nat_lt w.time t) e))) in
+    (λ w m e. most w m (eqb-true w.cell c (left-true (w.cell == c) (nat_lt w.time t) e)) (ltb-true w.time t (right-true (w.cell == c) (nat_lt w.time t) e))) in
     let high : p ≤ top 0 c t ts = elim some [
       | inl none ↦ omega arith
       | inr s ↦
           let w : Tuple = s.0 in
           let is : w.time ≡ p = s.3 in
           let early : p < t = s.4 in
-          omega (arith, is, top-ge 0 c t ts w s.1 (both_true _ _ (eq-eqb w.cell c s.2) (lt-ltb w.time t (omega arith))))
+          omega (arith, is, top-ge 0 c t ts w s.1 (both-true _ _ (eq-eqb w.cell c s.2) (lt-ltb w.time t (omega arith))))
     ] in
     omega arith
 
@@ -83,7 +83,7 @@ left_at-is (e ∷ es) d w (inr m) =
     let time : w.time ≡ event.time = ap (λ z. z.time) other.2 in
     let fails : at w.cell w.time (tuple_written e) ≡ false =
     elim (at w.cell w.time (tuple_written e)) as (λ b. at w.cell w.time (tuple_written e) ≡ b → b ≡ false) [
-      | true ↦ λ h. absurd (differs (eqb-true e.time w.time (right_true (e.cell == w.cell) (e.time == w.time) h) ∙ time))
+      | true ↦ λ h. absurd (differs (eqb-true e.time w.time (right-true (e.cell == w.cell) (e.time == w.time) h) ∙ time))
       | false ↦ λ h. refl
     ] refl in
     ap (λ b. unwrap_or (option_map (λ z. z.value) (cond b (Some (tuple_written e)) (find (at w.cell w.time) (map tuple_written es)))) 0) fails ∙ left_at-is es d.1 w m
@@ -116,15 +116,15 @@ module _ (initial : ℕ → ℕ) (es : List Event) (table : List TableEntry) (bo
   ]
 
   -- a tuple that is written after time 0 is an access's
-  late_own : (w : Tuple) → In w ws → 0 < w.time → (e : Event) × In e es × (w ≡ tuple_written e)
-  late_own w m late = elim (parts w m) [
+  late-own : (w : Tuple) → In w ws → 0 < w.time → (e : Event) × In e es × (w ≡ tuple_written e)
+  late-own w m late = elim (parts w m) [
     | inl h ↦ h
     | inr h ↦ let none : w.time ≡ 0 = ap (λ z. z.time) h.2 in absurd (omega arith)
   ]
 
   -- a tuple that is written at time 0 is an initial one
-  first_own : (w : Tuple) → In w ws → w.time ≡ 0 → (t : TableEntry) × In t table × (w ≡ tuple_first initial t)
-  first_own w m none = elim (parts w m) [
+  first-own : (w : Tuple) → In w ws → w.time ≡ 0 → (t : TableEntry) × In t table × (w ≡ tuple_first initial t)
+  first-own w m none = elim (parts w m) [
     | inl h ↦
         let e : Event = h.0 in
         let time : w.time ≡ e.time = ap (λ z. z.time) h.2 in
@@ -134,18 +134,18 @@ module _ (initial : ℕ → ℕ) (es : List Event) (table : List TableEntry) (bo
   ]
 
   -- what is read was written
-  was_written : (w : Tuple) → In w (all_read es table) → In w ws
-  was_written w m = count-in w ws (subst (λ n. 1 ≤ n) (s.counts w) (in-count w (all_read es table) m))
+  was-written : (w : Tuple) → In w (all_read es table) → In w ws
+  was-written w m = count-in w ws (subst (λ n. 1 ≤ n) (s.counts w) (in-count w (all_read es table) m))
 
-  last_in : (t : TableEntry) → In t table → In (tuple_last t) ws
-  last_in t m = was_written (tuple_last t) (in-right (tuple_last t) (map tuple_read es) (map tuple_last table) (in-map tuple_last t table m))
+  last-in : (t : TableEntry) → In t table → In (tuple_last t) ws
+  last-in t m = was-written (tuple_last t) (in-right (tuple_last t) (map tuple_read es) (map tuple_last table) (in-map tuple_last t table m))
 
   late : (t : TableEntry) → In t table → 0 < t.time
   late t m = all-in (λ t. 0 < t.time) table o.after_start t m
 
   below : (t : TableEntry) → In t table → t.time < bound
   below t m =
-      let h = late_own (tuple_last t) (last_in t m) (late t m) in
+      let h = late-own (tuple_last t) (last-in t m) (late t m) in
       let e : Event = h.0 in
       let time : t.time ≡ e.time = ap (λ z. z.time) h.2 in
       let bounded : e.time < bound = all-in (λ e. e.time < bound) es o.below e h.1 in
@@ -160,52 +160,52 @@ module _ (initial : ℕ → ℕ) (es : List Event) (table : List TableEntry) (bo
       | inr h ↦ let r = in-map-back (final bound) e table h in subst (λ z. z.prev < z.time) (sym r.2) (below r.0 r.1)
     ];
     written = λ w m positive.
-        let h = late_own w m positive in
+        let h = late-own w m positive in
         (h.0, in-left h.0 es (map (final bound) table) h.1, ap (λ z. z.cell) (sym h.2), ap (λ z. z.time) (sym h.2));
   }
 
-  own_in : (w : Tuple) → In w own → In w ws
-  own_in w m = in-left w own (map (tuple_first initial) table) m
+  own-in : (w : Tuple) → In w own → In w ws
+  own-in w m = in-left w own (map (tuple_first initial) table) m
 
   -- what a reader reads, if it is after time 0, is an access's
-  reads_own : (e : Event) → In e readers → 0 < e.prev → In (tuple_read e) own
-  reads_own e m positive =
-      let h = late_own (tuple_read e) (read_in readers ws agree e m) positive in
+  reads-own : (e : Event) → In e readers → 0 < e.prev → In (tuple_read e) own
+  reads-own e m positive =
+      let h = late-own (tuple_read e) (read-in readers ws agree e m) positive in
       subst (λ w. In w own) (sym h.2) (in-map tuple_written h.0 es h.1)
 
-  reader_time : (e : Event) → In e readers → e.prev ≡ last_use own e.cell e.time
-  reader_time e m =
+  reader-time : (e : Event) → In e readers → e.prev ≡ last_use own e.cell e.time
+  reader-time e m =
       let earlier : e.prev < e.time = agree.earlier e m in
       sym (last_use-is own e.cell e.time e.prev
-      (λ w h cell time. last_read readers ws agree e m w (own_in w h) cell time)
+      (λ w h cell time. last-read readers ws agree e m w (own-in w h) cell time)
       (elim (eq-zero-or-pos e.prev) [
         | inl none ↦ inl none
-        | inr some ↦ inr (tuple_read e, reads_own e m some, refl, refl, earlier)
+        | inr some ↦ inr (tuple_read e, reads-own e m some, refl, refl, earlier)
       ]))
 
-  reader_value : (e : Event) → In e readers → e.old ≡ value_before initial own e.cell e.time
-  reader_value e m =
+  reader-value : (e : Event) → In e readers → e.old ≡ value_before initial own e.cell e.time
+  reader-value e m =
       let by : ℕ → ℕ = λ n. cond (n == 0) (initial e.cell) (left_at own e.cell n) in
       let here : e.old ≡ by e.prev = elim (eq-zero-or-pos e.prev) [
         | inl none ↦
-            let h = first_own (tuple_read e) (read_in readers ws agree e m) none in
+            let h = first-own (tuple_read e) (read-in readers ws agree e m) none in
             let t : TableEntry = h.0 in
             let cell : e.cell ≡ t.cell = ap (λ z. z.cell) h.2 in
             let value : e.old ≡ initial t.cell = ap (λ z. z.value) h.2 in
             value ∙ ap initial (sym cell) ∙ ap (λ b. cond b (initial e.cell) (left_at own e.cell e.prev)) (sym (eq-eqb e.prev 0 none))
         | inr some ↦
-            let not_zero : (e.prev == 0) ≡ false = elim (e.prev == 0) as (λ b. (e.prev == 0) ≡ b → b ≡ false) [ true ↦ λ h. (let z : e.prev ≡ 0 = eqb-true e.prev 0 h in absurd (omega arith)) | false ↦ λ h. refl ] refl in
-            sym (left_at-is es o.differ (tuple_read e) (reads_own e m some)) ∙ ap (λ b. cond b (initial e.cell) (left_at own e.cell e.prev)) (sym not_zero)
+            let not-zero : (e.prev == 0) ≡ false = elim (e.prev == 0) as (λ b. (e.prev == 0) ≡ b → b ≡ false) [ true ↦ λ h. (let z : e.prev ≡ 0 = eqb-true e.prev 0 h in absurd (omega arith)) | false ↦ λ h. refl ] refl in
+            sym (left_at-is es o.differ (tuple_read e) (reads-own e m some)) ∙ ap (λ b. cond b (initial e.cell) (left_at own e.cell e.prev)) (sym not-zero)
       ] in
-      here ∙ ap by (reader_time e m)
+      here ∙ ap by (reader-time e m)
 
-  in_readers : (t : TableEntry) → In t table → In (final bound t) readers
-  in_readers t m = in-right (final bound t) es (map (final bound) table) (in-map (final bound) t table m)
+  in-readers : (t : TableEntry) → In t table → In (final bound t) readers
+  in-readers t m = in-right (final bound t) es (map (final bound) table) (in-map (final bound) t table m)
 
   entry : (t : TableEntry) → In t table → t ≡ last_entry own bound t.cell
   entry t m =
-      let time : t.time ≡ last_use own t.cell bound = reader_time (final bound t) (in_readers t m) in
-      let value : t.value ≡ left_at own t.cell t.time = sym (left_at-is es o.differ (tuple_last t) (reads_own (final bound t) (in_readers t m) (late t m))) in
+      let time : t.time ≡ last_use own t.cell bound = reader-time (final bound t) (in-readers t m) in
+      let value : t.value ≡ left_at own t.cell t.time = sym (left_at-is es o.differ (tuple_last t) (reads-own (final bound t) (in-readers t m) (late t m))) in
       λ i. record { cell = t.cell; value = (value ∙ ap (left_at own t.cell) time) i; time = time i }
 
   entries : (ts : List TableEntry) → ((t : TableEntry) → In t ts → t ≡ last_entry own bound t.cell) → ts ≡ map (last_entry own bound) (map (λ t. t.cell) ts)
@@ -221,11 +221,11 @@ module _ (initial : ℕ → ℕ) (es : List Event) (table : List TableEntry) (bo
   tabled (suc n) e m h =
       let reader : In e readers = in-left e es (map (final bound) table) m in
       let earlier : e.prev < e.time = agree.earlier e reader in
-      let read : In (tuple_read e) ws = read_in readers ws agree e reader in
+      let read : In (tuple_read e) ws = read-in readers ws agree e reader in
       elim (eq-zero-or-pos e.prev) [
-        | inl none ↦ let r = first_own (tuple_read e) read none in subst (λ c. In c (map (λ t. t.cell) table)) (ap (λ z. z.cell) (sym r.2)) (in-map (λ t. t.cell) r.0 table r.1)
+        | inl none ↦ let r = first-own (tuple_read e) read none in subst (λ c. In c (map (λ t. t.cell) table)) (ap (λ z. z.cell) (sym r.2)) (in-map (λ t. t.cell) r.0 table r.1)
         | inr some ↦
-            let r = late_own (tuple_read e) read some in
+            let r = late-own (tuple_read e) read some in
             let before : Event = r.0 in
             let time : e.prev ≡ before.time = ap (λ z. z.time) r.2 in
             subst (λ c. In c (map (λ t. t.cell) table)) (ap (λ z. z.cell) (sym r.2)) (tabled n before r.1 (omega arith))
@@ -235,12 +235,12 @@ module _ (initial : ℕ → ℕ) (es : List Event) (table : List TableEntry) (bo
   used c m =
       let r = in-map-back (λ t. t.cell) c table m in
       let t : TableEntry = r.0 in
-      let h = late_own (tuple_last t) (last_in t r.1) (late t r.1) in
+      let h = late-own (tuple_last t) (last-in t r.1) (late t r.1) in
       let there : In t.cell (map (λ w. w.cell) own) = subst (λ w. In w.cell (map (λ w. w.cell) own)) (sym h.2) (in-map (λ w. w.cell) (tuple_written h.0) own (in-map tuple_written h.0 es h.1)) in
       subst (λ x. In x (map (λ w. w.cell) own)) (sym r.2) there
 
-  in_table : (c : ℕ) → In c (map (λ w. w.cell) own) → In c (map (λ t. t.cell) table)
-  in_table c m =
+  in-table : (c : ℕ) → In c (map (λ w. w.cell) own) → In c (map (λ t. t.cell) table)
+  in-table c m =
       let w = in-map-back (λ w. w.cell) c own m in
       let r = in-map-back tuple_written w.0 es w.1 in
       let e : Event = r.0 in
@@ -250,12 +250,12 @@ module _ (initial : ℕ → ℕ) (es : List Event) (table : List TableEntry) (bo
   cells : map (λ t. t.cell) table ≡ rising (map (λ w. w.cell) own)
   cells = same-rising (map (λ t. t.cell) table) (rising (map (λ w. w.cell) own)) o.rising (rising-rises (map (λ w. w.cell) own))
       (λ c m. rising-in c (map (λ w. w.cell) own) (used c m))
-      (λ c m. in_table c (in-rising c (map (λ w. w.cell) own) m))
+      (λ c m. in-table c (in-rising c (map (λ w. w.cell) own) m))
 
   pub chain : IsChain initial es table bound
   unfolding table_of
   chain = record {
-    times = all-of (λ e. e.prev ≡ last_use own e.cell e.time) es (λ e m. reader_time e (in-left e es (map (final bound) table) m));
-    values = all-of (λ e. e.old ≡ value_before initial own e.cell e.time) es (λ e m. reader_value e (in-left e es (map (final bound) table) m));
+    times = all-of (λ e. e.prev ≡ last_use own e.cell e.time) es (λ e m. reader-time e (in-left e es (map (final bound) table) m));
+    values = all-of (λ e. e.old ≡ value_before initial own e.cell e.time) es (λ e m. reader-value e (in-left e es (map (final bound) table) m));
     last = entries table entry ∙ ap (map (last_entry own bound)) cells;
   }

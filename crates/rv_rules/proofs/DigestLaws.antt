@@ -8,14 +8,14 @@ use Rattle.rv_spec.specs.Digest.{Lanes, lane_numbers, digest_lane, digest}
 use Rattle.rv_rules.specs.Sums.{add_lanes}
 
 -- the remainders of two numbers add up to that of the sum
-mod_sum : (a b m : ℕ) → (a + b) % m ≡ (a % m + b % m) % m
-mod_sum a b m = sym (mod-add-mod a m (b % m) ∙ add-mod-mod a b m)
+mod-sum : (a b m : ℕ) → (a + b) % m ≡ (a % m + b % m) % m
+mod-sum a b m = sym (mod-add-mod a m (b % m) ∙ add-mod-mod a b m)
 
 pub digest_lane-append : (lanes : Lanes) (xs ys : List Tuple) (j : ℕ) → digest_lane lanes (xs ++ ys) j ≡ (digest_lane lanes xs j + digest_lane lanes ys j) % 2 ^ 64
 unfolding digest_lane
 digest_lane-append lanes xs ys j =
     let lane : Tuple → ℕ = λ t. slice_index (lanes t) j in
-    ap (λ n. n % 2 ^ 64) (sum_by-append lane xs ys) ∙ mod_sum (sum_by lane xs) (sum_by lane ys) (2 ^ 64)
+    ap (λ n. n % 2 ^ 64) (sum_by-append lane xs ys) ∙ mod-sum (sum_by lane xs) (sum_by lane ys) (2 ^ 64)
 
 pub digest-append : (lanes : Lanes) (xs ys : List Tuple) → digest lanes (xs ++ ys) ≡ add_lanes (digest lanes xs) (digest lanes ys)
 digest-append lanes xs ys = λ i. map (λ j. digest_lane-append lanes xs ys j i) lane_numbers

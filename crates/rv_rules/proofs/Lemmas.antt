@@ -8,5 +8,5 @@ pub use Rattle.rv_rules.proofs.MemoryLaws.{byte-one, byte-outside, extract-loade
 pub use Rattle.rv_rules.proofs.MultisetLaws.{count-cons, digest-same, same_tuple-true, sum_by-without, without}
 pub use Rattle.rv_rules.proofs.OldValues.{seen-in}
 pub use Rattle.rv_rules.proofs.OwnTimes.{rising-differ, written-once}
-pub use Rattle.rv_rules.proofs.Conjunctions.{both_true, left_true, right_true, left_false, right_false, and_true, or_false}
+pub use Rattle.rv_rules.proofs.Conjunctions.{both-true, left-true, right-true, left-false, right-false, and-true, or-false}
 pub use Rattle.rv_rules.proofs.ByteLists.{bytes-are, byte-fits, take-bytes, drop-bytes, append-bytes}

@@ -36,13 +36,13 @@ module _ {A : Type 0} where
   all-of P (x ∷ xs) h = (h x (inl refl), all-of P xs (λ y m. h y (inr m)))
 
 -- a member of a rising list is its first, or greater
-first_least : (x : ℕ) (xs : List ℕ) → IsRising (x ∷ xs) → (c : ℕ) → In c (x ∷ xs) → x ≤ c
-first_least x xs r c (inl e) = omega arith
-first_least x xs r c (inr m) = let less = all-in (λ y. x < y) xs r.0 c m in omega arith
+first-least : (x : ℕ) (xs : List ℕ) → IsRising (x ∷ xs) → (c : ℕ) → In c (x ∷ xs) → x ≤ c
+first-least x xs r c (inl e) = omega arith
+first-least x xs r c (inr m) = let less = all-in (λ y. x < y) xs r.0 c m in omega arith
 
-not_first : (x c : ℕ) (xs : List ℕ) → x < c → In c (x ∷ xs) → In c xs
-not_first x c xs h (inl e) = absurd (omega arith)
-not_first x c xs h (inr m) = m
+not-first : (x c : ℕ) (xs : List ℕ) → x < c → In c (x ∷ xs) → In c xs
+not-first x c xs h (inl e) = absurd (omega arith)
+not-first x c xs h (inr m) = m
 
 -- rising lists with the same members are equal
 pub same-rising : (xs ys : List ℕ) → IsRising xs → IsRising ys → ((c : ℕ) → In c xs → In c ys) → ((c : ℕ) → In c ys → In c xs) → xs ≡ ys
@@ -50,12 +50,12 @@ same-rising [] [] rx ry to back = refl
 same-rising [] (y ∷ ys) rx ry to back = absurd (back y (inl refl))
 same-rising (x ∷ xs) [] rx ry to back = absurd (to x (inl refl))
 same-rising (x ∷ xs) (y ∷ ys) rx ry to back =
-    let low : y ≤ x = first_least y ys ry x (to x (inl refl)) in
-    let high : x ≤ y = first_least x xs rx y (back y (inl refl)) in
+    let low : y ≤ x = first-least y ys ry x (to x (inl refl)) in
+    let high : x ≤ y = first-least x xs rx y (back y (inl refl)) in
     let first : x ≡ y = omega arith in
     let rest : xs ≡ ys = same-rising xs ys rx.1 ry.1
-    (λ c m. let less : x < c = all-in (λ z. x < z) xs rx.0 c m in not_first y c ys (omega arith) (to c (inr m)))
-    (λ c m. let less : y < c = all-in (λ z. y < z) ys ry.0 c m in not_first x c xs (omega arith) (back c (inr m))) in
+    (λ c m. let less : x < c = all-in (λ z. x < z) xs rx.0 c m in not-first y c ys (omega arith) (to c (inr m)))
+    (λ c m. let less : y < c = all-in (λ z. y < z) ys ry.0 c m in not-first x c xs (omega arith) (back c (inr m))) in
     λ i. first i ∷ rest i
 
 -- ---- `rising` gives a rising list of the same numbers
@@ -100,7 +100,7 @@ insert-rises d [] r = (tt, tt)
 insert-rises d (x ∷ xs) r = go (nat_lt d x) (d == x) refl refl (insert-rises d xs r.1)
   where
     above : d < x → AllByRecursion (λ y. d < y) (x ∷ xs)
-    above h = all-of (λ y. d < y) (x ∷ xs) (λ y m. let least = first_least x xs r y m in omega arith)
+    above h = all-of (λ y. d < y) (x ∷ xs) (λ y m. let least = first-least x xs r y m in omega arith)
 
     inserted : x < d → AllByRecursion (λ y. x < y) (insert_rising d xs)
     inserted h = all-of (λ y. x < y) (insert_rising d xs) (λ y m. elim (in-insert y d xs m) [ inl e ↦ omega arith | inr k ↦ all-in (λ z. x < z) xs r.0 y k ])

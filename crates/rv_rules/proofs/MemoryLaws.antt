@@ -21,8 +21,8 @@ ties x k = elim (nat_lt x k) as (λ b. nat_lt x k ≡ b → is_eq (cond b Less (
 abbrev found : ℕ → List (ℕ × ℕ) → Option ℕ
 found x es = lookup (is_at (nat_cmp x)) es
 
-head_is : (x : ℕ) (e : ℕ × ℕ) (es : List (ℕ × ℕ)) → found x (e ∷ es) ≡ cond (x == e.0) (Some e.1) (found x es)
-head_is x e es = ap (λ b. cond b (Some e.1) (found x es)) (ties x e.0)
+head-is : (x : ℕ) (e : ℕ × ℕ) (es : List (ℕ × ℕ)) → found x (e ∷ es) ≡ cond (x == e.0) (Some e.1) (found x es)
+head-is x e es = ap (λ b. cond b (Some e.1) (found x es)) (ties x e.0)
 
 swapped : {A : Type 0} (p q : Bool) (x y z : A) → (p ≡ true → q ≡ true → ⊥) → cond p x (cond q y z) ≡ cond q y (cond p x z)
 swapped true true x y z h = absurd (h refl refl)
@@ -31,22 +31,22 @@ swapped false q x y z h = refl
 
 -- a key that is inserted has its value, and each other key keeps its own
 pub found-insert : (es : List (ℕ × ℕ)) (a b x : ℕ) → found x (insert_entry nat_cmp es a b) ≡ cond (x == a) (Some b) (found x es)
-found-insert [] a b x = head_is x (a, b) []
+found-insert [] a b x = head-is x (a, b) []
 found-insert (e ∷ es) a b x =
     elim (nat_lt a e.0) as (λ l. nat_lt a e.0 ≡ l → found x (match_ordering (cond l Less (cond (a == e.0) Equal Greater)) ((a, b) ∷ e ∷ es) ((e.0, b) ∷ es) (e ∷ insert_entry nat_cmp es a b)) ≡ cond (x == a) (Some b) (found x (e ∷ es))) [
-      | true ↦ λ less. head_is x (a, b) (e ∷ es)
+      | true ↦ λ less. head-is x (a, b) (e ∷ es)
       | false ↦ λ less.
           elim (a == e.0) as (λ q. (a == e.0) ≡ q → found x (match_ordering (cond q Equal Greater) ((a, b) ∷ e ∷ es) ((e.0, b) ∷ es) (e ∷ insert_entry nat_cmp es a b)) ≡ cond (x == a) (Some b) (found x (e ∷ es))) [
             | true ↦ λ same.
                 let key : e.0 ≡ a = sym (eqb-true a e.0 same) in
-                head_is x (e.0, b) es ∙ ap (λ k. cond (x == k) (Some b) (found x es)) key
+                head-is x (e.0, b) es ∙ ap (λ k. cond (x == k) (Some b) (found x es)) key
                 ∙ repeated (x == a) (Some b) (Some e.1) (found x es)
                 ∙ ap (λ k. cond (x == a) (Some b) (cond (x == k) (Some e.1) (found x es))) (sym key)
-                ∙ ap (cond (x == a) (Some b)) (sym (head_is x e es))
+                ∙ ap (cond (x == a) (Some b)) (sym (head-is x e es))
             | false ↦ λ other.
-                head_is x e (insert_entry nat_cmp es a b) ∙ ap (cond (x == e.0) (Some e.1)) (found-insert es a b x)
+                head-is x e (insert_entry nat_cmp es a b) ∙ ap (cond (x == e.0) (Some e.1)) (found-insert es a b x)
                 ∙ swapped (x == e.0) (x == a) (Some e.1) (Some b) (found x es) (λ p q. eqb-false a e.0 other (sym (eqb-true x a q) ∙ eqb-true x e.0 p))
-                ∙ ap (cond (x == a) (Some b)) (sym (head_is x e es))
+                ∙ ap (cond (x == a) (Some b)) (sym (head-is x e es))
           ] refl
     ] refl
   where
@@ -94,10 +94,10 @@ byte-inside m a (b ∷ bs) (suc k) h =
 -- ---- bytes within a word
 
 -- the four bytes of a number of 32 bits
-bytes_of : (b0 b1 b2 b3 : ℕ) → b0 < 256 → b1 < 256 → b2 < 256 → b3 < 256 →
+bytes-of : (b0 b1 b2 b3 : ℕ) → b0 < 256 → b1 < 256 → b2 < 256 → b3 < 256 →
     ((b0 + b1 * 256 + b2 * 65536 + b3 * 16777216) / 1 % 256 ≡ b0) × ((b0 + b1 * 256 + b2 * 65536 + b3 * 16777216) / 256 % 256 ≡ b1)
     × ((b0 + b1 * 256 + b2 * 65536 + b3 * 16777216) / 65536 % 256 ≡ b2) × ((b0 + b1 * 256 + b2 * 65536 + b3 * 16777216) / 16777216 % 256 ≡ b3)
-bytes_of b0 b1 b2 b3 h0 h1 h2 h3 = (omega arith, omega arith, omega arith, omega arith)
+bytes-of b0 b1 b2 b3 h0 h1 h2 h3 = (omega arith, omega arith, omega arith, omega arith)
 
 -- the word that an aligned address begins is the four bytes from there on
 pub word-aligned : (m : Memory) (a : ℕ) → a % 4 ≡ 0 → word m (a / 4) ≡ from_le_bytes w32 (bytes_from m a 4)
@@ -111,10 +111,10 @@ byte-of-word m a fits = go (a % 4) refl (omega arith)
     n = 4 * (a / 4)
 
     go : (k : ℕ) → a % 4 ≡ k → k < 4 → word m (a / 4) / 256 ^ k % 2 ^ 8 ≡ byte m a
-    go zero e h = (bytes_of (byte m n) (byte m (n + 1)) (byte m (n + 1 + 1)) (byte m (n + 1 + 1 + 1)) (fits n) (fits (n + 1)) (fits (n + 1 + 1)) (fits (n + 1 + 1 + 1))).0 ∙ ap (byte m) (let q : n ≡ a = omega arith in q)
-    go (suc zero) e h = (bytes_of (byte m n) (byte m (n + 1)) (byte m (n + 1 + 1)) (byte m (n + 1 + 1 + 1)) (fits n) (fits (n + 1)) (fits (n + 1 + 1)) (fits (n + 1 + 1 + 1))).1 ∙ ap (byte m) (let q : n + 1 ≡ a = omega arith in q)
-    go (suc (suc zero)) e h = (bytes_of (byte m n) (byte m (n + 1)) (byte m (n + 1 + 1)) (byte m (n + 1 + 1 + 1)) (fits n) (fits (n + 1)) (fits (n + 1 + 1)) (fits (n + 1 + 1 + 1))).2 ∙ ap (byte m) (let q : n + 1 + 1 ≡ a = omega arith in q)
-    go (suc (suc (suc zero))) e h = (bytes_of (byte m n) (byte m (n + 1)) (byte m (n + 1 + 1)) (byte m (n + 1 + 1 + 1)) (fits n) (fits (n + 1)) (fits (n + 1 + 1)) (fits (n + 1 + 1 + 1))).3 ∙ ap (byte m) (let q : n + 1 + 1 + 1 ≡ a = omega arith in q)
+    go zero e h = (bytes-of (byte m n) (byte m (n + 1)) (byte m (n + 1 + 1)) (byte m (n + 1 + 1 + 1)) (fits n) (fits (n + 1)) (fits (n + 1 + 1)) (fits (n + 1 + 1 + 1))).0 ∙ ap (byte m) (let q : n ≡ a = omega arith in q)
+    go (suc zero) e h = (bytes-of (byte m n) (byte m (n + 1)) (byte m (n + 1 + 1)) (byte m (n + 1 + 1 + 1)) (fits n) (fits (n + 1)) (fits (n + 1 + 1)) (fits (n + 1 + 1 + 1))).1 ∙ ap (byte m) (let q : n + 1 ≡ a = omega arith in q)
+    go (suc (suc zero)) e h = (bytes-of (byte m n) (byte m (n + 1)) (byte m (n + 1 + 1)) (byte m (n + 1 + 1 + 1)) (fits n) (fits (n + 1)) (fits (n + 1 + 1)) (fits (n + 1 + 1 + 1))).2 ∙ ap (byte m) (let q : n + 1 + 1 ≡ a = omega arith in q)
+    go (suc (suc (suc zero))) e h = (bytes-of (byte m n) (byte m (n + 1)) (byte m (n + 1 + 1)) (byte m (n + 1 + 1 + 1)) (fits n) (fits (n + 1)) (fits (n + 1 + 1)) (fits (n + 1 + 1 + 1))).3 ∙ ap (byte m) (let q : n + 1 + 1 + 1 ≡ a = omega arith in q)
     go (suc (suc (suc (suc k)))) e h = absurd (omega arith)
 
 -- a half of a word, at an even address, is the two bytes from there on
@@ -194,10 +194,10 @@ within-store m x (b ∷ bs) len n k e h =
     ∙ ap (overlay (suc k) bs) (within-one m x b len n k e (omega arith))
 
 -- the bytes of a word are those in memory
-word_bytes : (m : Memory) (w : ℕ) → ((x : ℕ) → byte m x < 2 ^ 8) → to_le_bytes w32 (word m w) ≡ bytes_from m (4 * w) 4
-word_bytes m w fits =
+word-bytes : (m : Memory) (w : ℕ) → ((x : ℕ) → byte m x < 2 ^ 8) → to_le_bytes w32 (word m w) ≡ bytes_from m (4 * w) 4
+word-bytes m w fits =
     let n : ℕ = 4 * w in
-    let four = bytes_of (byte m n) (byte m (n + 1)) (byte m (n + 1 + 1)) (byte m (n + 1 + 1 + 1)) (fits n) (fits (n + 1)) (fits (n + 1 + 1)) (fits (n + 1 + 1 + 1)) in
+    let four = bytes-of (byte m n) (byte m (n + 1)) (byte m (n + 1 + 1)) (byte m (n + 1 + 1 + 1)) (fits n) (fits (n + 1)) (fits (n + 1 + 1)) (fits (n + 1 + 1 + 1)) in
     let first : word m w % 256 ≡ byte m n = omega (arith, four.0) in
     λ i. first i ∷ four.1 i ∷ four.2 i ∷ four.3 i ∷ []
 
@@ -208,4 +208,4 @@ word-stored m a bs h fits =
     let n : ℕ = 4 * (a / 4) in
     let place : a ≡ n + a % 4 = omega arith in
     ap (from_le_bytes w32) (within-store m a bs 4 n (a % 4) place h ∙ overlay-is (a % 4) bs (bytes_from m n 4) h
-    ∙ ap (λ l. take (a % 4) l ++ bs ++ drop (a % 4 + length bs) l) (sym (word_bytes m (a / 4) fits)))
+    ∙ ap (λ l. take (a % 4) l ++ bs ++ drop (a % 4 + length bs) l) (sym (word-bytes m (a / 4) fits)))

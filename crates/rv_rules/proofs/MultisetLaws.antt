@@ -7,18 +7,18 @@ use Rattle.std.proofs.lemmas.Bool.{eqb-true, eq-eqb}
 use Rattle.rv_base.specs.declared.record.Tuple.{Tuple}
 use Rattle.rv_spec.specs.Digest.{Lanes, lane_numbers, digest_lane, digest}
 use Rattle.rv_spec.specs.Multiset.{same_tuple, count, Same}
-use Rattle.rv_rules.proofs.Conjunctions.{both_true, left_true, right_true}
+use Rattle.rv_rules.proofs.Conjunctions.{both-true, left-true, right-true}
 
 -- the test of tuples decides that they are equal
 pub same_tuple-refl : (t : Tuple) → same_tuple t t ≡ true
-same_tuple-refl t = both_true _ _ (both_true _ _ (eq-eqb t.cell t.cell refl) (eq-eqb t.value t.value refl)) (eq-eqb t.time t.time refl)
+same_tuple-refl t = both-true _ _ (both-true _ _ (eq-eqb t.cell t.cell refl) (eq-eqb t.value t.value refl)) (eq-eqb t.time t.time refl)
 
 pub same_tuple-true : (t u : Tuple) → same_tuple t u ≡ true → t ≡ u
 same_tuple-true t u e =
-    let both = left_true (t.cell == u.cell && t.value == u.value) (t.time == u.time) e in
-    let cell = eqb-true t.cell u.cell (left_true (t.cell == u.cell) (t.value == u.value) both) in
-    let value = eqb-true t.value u.value (right_true (t.cell == u.cell) (t.value == u.value) both) in
-    let time = eqb-true t.time u.time (right_true (t.cell == u.cell && t.value == u.value) (t.time == u.time) e) in
+    let both = left-true (t.cell == u.cell && t.value == u.value) (t.time == u.time) e in
+    let cell = eqb-true t.cell u.cell (left-true (t.cell == u.cell) (t.value == u.value) both) in
+    let value = eqb-true t.value u.value (right-true (t.cell == u.cell) (t.value == u.value) both) in
+    let time = eqb-true t.time u.time (right-true (t.cell == u.cell && t.value == u.value) (t.time == u.time) e) in
     λ i. record { cell = cell i; value = value i; time = time i }
 
 -- one where the tuples are equal, else zero

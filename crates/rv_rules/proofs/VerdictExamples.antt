@@ -17,44 +17,44 @@ accepted : verdict sha_lanes elf [] file ≡ Accept 3 1 (record { kind = 0; code
 unfolding computes judges
 accepted = refl
 
-another_input : verdict sha_lanes elf (0 ∷ []) file ≡ Refuse (record { shard = 0; row = 0; rule = 4 })
+another-input : verdict sha_lanes elf (0 ∷ []) file ≡ Refuse (record { shard = 0; row = 0; rule = 4 })
 unfolding computes judges
-another_input = refl
+another-input = refl
 
-empty_file : verdict sha_lanes elf [] [] ≡ Refuse (record { shard = 0; row = 0; rule = 1 })
+empty-file : verdict sha_lanes elf [] [] ≡ Refuse (record { shard = 0; row = 0; rule = 1 })
 unfolding computes judges
-empty_file = refl
+empty-file = refl
 
 -- with the lanes for tests the digests are all 0
 abbrev pub tiny_file : List ℕ
 tiny_file = record_file tiny_lanes 1 elf [] 3 3 (record { kind = 0; code = 42 })
 
-tiny_accepted : verdict tiny_lanes elf [] tiny_file ≡ Accept 3 1 (record { kind = 0; code = 42 })
+tiny-accepted : verdict tiny_lanes elf [] tiny_file ≡ Accept 3 1 (record { kind = 0; code = 42 })
 unfolding computes judges
-tiny_accepted = refl
+tiny-accepted = refl
 
-without_last : verdict tiny_lanes elf [] (take 718 tiny_file) ≡ Refuse (record { shard = 1; row = 4; rule = 1 })
+without-last : verdict tiny_lanes elf [] (take 718 tiny_file) ≡ Refuse (record { shard = 1; row = 4; rule = 1 })
 unfolding computes judges
-without_last = refl
+without-last = refl
 
-one_more : verdict tiny_lanes elf [] (tiny_file ++ 0 ∷ []) ≡ Refuse (record { shard = 1; row = 5; rule = 27 })
+one-more : verdict tiny_lanes elf [] (tiny_file ++ 0 ∷ []) ≡ Refuse (record { shard = 1; row = 5; rule = 27 })
 unfolding computes judges
-one_more = refl
+one-more = refl
 
 -- the prev of x17 in the last row made 34
-late_prev : verdict tiny_lanes elf [] (set tiny_file 346 34) ≡ Refuse (record { shard = 0; row = 2; rule = 15 })
+late-prev : verdict tiny_lanes elf [] (set tiny_file 346 34) ≡ Refuse (record { shard = 0; row = 2; rule = 15 })
 unfolding computes judges
-late_prev = refl
+late-prev = refl
 
 -- x10 read and written as 43 in the last row, at the end and in the table: accepted under lanes that tell nothing apart
 abbrev forged : List ℕ
 forged = set (set (set (set tiny_file 363 43) 375 43) 153 43) 691 43
 
-forged_accepted : verdict tiny_lanes elf [] forged ≡ Accept 3 1 (record { kind = 0; code = 43 })
+forged-accepted : verdict tiny_lanes elf [] forged ≡ Accept 3 1 (record { kind = 0; code = 43 })
 unfolding computes judges
-forged_accepted = refl
+forged-accepted = refl
 
 -- the expected step of a row is the row's own
-sc_expected : map (λ t. t.new) (expected 2 0x10008 (seen (row reserving [] 2).accesses) [] 0).touches ≡ map (λ a. a.new) (row reserving [] 2).accesses
+sc-expected : map (λ t. t.new) (expected 2 0x10008 (seen (row reserving [] 2).accesses) [] 0).touches ≡ map (λ a. a.new) (row reserving [] 2).accesses
 unfolding computes judges
-sc_expected = refl
+sc-expected = refl

@@ -13,7 +13,7 @@ use Rattle.rv_spec.specs.Grammar.{Spells}
 use Rattle.rv_spec.specs.Conclusion.{IsRecord, IsCollision}
 use Rattle.rv_rules.specs.Verdict.{judge, verdict_of}
 use Rattle.rv_rules.specs.Laws.{AcceptedIsRecord}
-use Rattle.rv_file.proofs.Lemmas.{form_is_grammar, ok_is}
+use Rattle.rv_file.proofs.Lemmas.{form-is-grammar, ok-is}
 use Rattle.rv_sound.specs.Accepted.{ReadsAccepted}
 use Rattle.rv_settle.specs.declared.settling.Settled.{Settled}
 use Rattle.rv_settle.specs.declared.settling.Settled.TheVariants.{Run, Collision, Refused}
@@ -29,8 +29,8 @@ accepted (Ok p) steps shards end is = (p, refl, cc)
 accepted (Err d) steps shards end is = absurd cc
 
 -- a file spells one list of parts
-one_spelling : (file : List ℕ) (p q : Parts) → AreBytes file → Spells p file → Spells q file → q ≡ p
-one_spelling file p q bytes one other = ok_is q p (sym ((form_is_grammar file q bytes).1 other) ∙ (form_is_grammar file p bytes).1 one)
+one-spelling : (file : List ℕ) (p q : Parts) → AreBytes file → Spells p file → Spells q file → q ≡ p
+one-spelling file p q bytes one other = ok-is q p (sym ((form-is-grammar file q bytes).1 other) ∙ (form-is-grammar file p bytes).1 one)
 
 -- What is known of a program, its input and a file, of which the parts are accepted.
 pub record IsKnown (lanes : Lanes) (elf input file : List ℕ) (steps : ℕ) (p : Parts) : Type 0 where
@@ -43,17 +43,17 @@ pub record IsKnown (lanes : Lanes) (elf input file : List ℕ) (steps : ℕ) (p 
   pub reads : ReadsAccepted lanes elf input
   pub sound : AcceptedIsRecord lanes elf input file p
 
-no_collision : (lanes : Lanes) (elf input file : List ℕ) (steps : ℕ) (p : Parts) → IsKnown lanes elf input file steps p → Same (reads p) (writes (image p.header.version elf) p) → IsCollision lanes elf file → ⊥
-no_collision lanes elf input file steps p k same col =
+no-collision : (lanes : Lanes) (elf input file : List ℕ) (steps : ℕ) (p : Parts) → IsKnown lanes elf input file steps p → Same (reads p) (writes (image p.header.version elf) p) → IsCollision lanes elf file → ⊥
+no-collision lanes elf input file steps p k same col =
     let spelled = (k.reads.accepted file p k.file_bytes k.judged).0 in
-    let one : p ≡ col.parts = sym (one_spelling file p col.parts k.file_bytes spelled col.spells) in
+    let one : p ≡ col.parts = sym (one-spelling file p col.parts k.file_bytes spelled col.spells) in
     col.differ (subst (λ (q : Parts). Same (reads q) (writes (image q.header.version elf) q)) one same)
 
-record_only : (lanes : Lanes) (elf input file : List ℕ) (steps : ℕ) (p : Parts) → IsKnown lanes elf input file steps p → Same (reads p) (writes (image p.header.version elf) p)
+record-only : (lanes : Lanes) (elf input file : List ℕ) (steps : ℕ) (p : Parts) → IsKnown lanes elf input file steps p → Same (reads p) (writes (image p.header.version elf) p)
     → IsRecord lanes p.header.version elf input p.header.size p.header.steps p.header.end file ⊎ IsCollision lanes elf file
     → IsRecord lanes p.header.version elf input p.header.size p.header.steps p.header.end file
-record_only lanes elf input file steps p k same (inl r) = r
-record_only lanes elf input file steps p k same (inr col) = absurd (no_collision lanes elf input file steps p k same col)
+record-only lanes elf input file steps p k same (inl r) = r
+record-only lanes elf input file steps p k same (inr col) = absurd (no-collision lanes elf input file steps p k same col)
 
 pub concluded : (lanes : Lanes) (elf input file : List ℕ) (steps : ℕ) (p : Parts) (s : Settled) → IsKnown lanes elf input file steps p
     → IsDecided (reads p) (writes (image p.header.version elf) p) steps s → IsSettled lanes elf input file s
@@ -63,7 +63,7 @@ concluded lanes elf input file steps p (Run n) k d = (
     accepted = k.judged;
     same = d.0;
     steps_are = d.1 ∙ sym k.steps_are;
-    record_of_run = record_only lanes elf input file steps p k d.0 (k.sound k.faultless k.elf_bytes k.input_bytes k.file_bytes k.judged);
+    record_of_run = record-only lanes elf input file steps p k d.0 (k.sound k.faultless k.elf_bytes k.input_bytes k.file_bytes k.judged);
   },
 )
 concluded lanes elf input file steps p (Collision d) k c =
@@ -80,9 +80,9 @@ concluded lanes elf input file steps p (Collision d) k c =
 concluded lanes elf input file steps p (Refused r) k d = absurd d
 
 -- what is decided of the lists that were collected is decided of those of the parts
-pub decided_of : (elf : List ℕ) (q p : Parts) (rs ws : List Tuple) (steps : ℕ) (s : Settled) → q ≡ p → rs ≡ reads q → ws ≡ writes (image q.header.version elf) q → IsDecided rs ws steps s
+pub decided-of : (elf : List ℕ) (q p : Parts) (rs ws : List Tuple) (steps : ℕ) (s : Settled) → q ≡ p → rs ≡ reads q → ws ≡ writes (image q.header.version elf) q → IsDecided rs ws steps s
     → IsDecided (reads p) (writes (image p.header.version elf) p) steps s
-decided_of elf q p rs ws steps s one read written d =
+decided-of elf q p rs ws steps s one read written d =
     let reads_are : rs ≡ reads p = read ∙ ap (λ (x : Parts). reads x) one in
     let writes_are : ws ≡ writes (image p.header.version elf) p = written ∙ ap (λ (x : Parts). writes (image x.header.version elf) x) one in
     subst (λ xs. IsDecided (reads p) xs steps s) writes_are (subst (λ xs. IsDecided xs ws steps s) reads_are d)

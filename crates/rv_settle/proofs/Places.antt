@@ -11,11 +11,11 @@ pub record IsAt {A : Type 0} (xs : List A) (i : ℕ) (x : A) : Type 0 where
   pub behind : drop i xs ≡ x ∷ drop (i + 1) xs
   pub front : take (i + 1) xs ≡ take i xs ++ x ∷ []
 
-first_at : {A : Type 0} (x : A) (xs : List A) → IsAt (x ∷ xs) 0 x
-first_at x xs = record { behind = refl; front = refl }
+first-at : {A : Type 0} (x : A) (xs : List A) → IsAt (x ∷ xs) 0 x
+first-at x xs = record { behind = refl; front = refl }
 
-later_at : {A : Type 0} (y : A) (xs : List A) (i : ℕ) (x : A) → IsAt xs i x → IsAt (y ∷ xs) (suc i) x
-later_at y xs i x at =
+later-at : {A : Type 0} (y : A) (xs : List A) (i : ℕ) (x : A) → IsAt xs i x → IsAt (y ∷ xs) (suc i) x
+later-at y xs i x at =
     let next : suc (i + 1) ≡ suc i + 1 = omega arith in
     record {
       behind = at.behind ∙ ap (λ n. x ∷ drop n (y ∷ xs)) next;
@@ -23,30 +23,30 @@ later_at y xs i x at =
     }
 
 -- what holds of each element holds of the one at a place
-pub place_of : {A : Type 0} (P : A → Type 0) (xs : List A) (i : ℕ) → i < length xs → AllByRecursion P xs → (x : A) × IsAt xs i x × P x
-place_of P [] i lt all = absurd (omega (arith, lt))
-place_of P (x ∷ xs) zero lt all = (x, first_at x xs, all.0)
-place_of P (x ∷ xs) (suc i) lt all =
-    let more = place_of P xs i (omega (arith, lt)) all.1 in
-    (more.0, later_at x xs i more.0 more.1, more.2)
+pub place-of : {A : Type 0} (P : A → Type 0) (xs : List A) (i : ℕ) → i < length xs → AllByRecursion P xs → (x : A) × IsAt xs i x × P x
+place-of P [] i lt all = absurd (omega (arith, lt))
+place-of P (x ∷ xs) zero lt all = (x, first-at x xs, all.0)
+place-of P (x ∷ xs) (suc i) lt all =
+    let more = place-of P xs i (omega (arith, lt)) all.1 in
+    (more.0, later-at x xs i more.0 more.1, more.2)
 
 -- of the shards from shard i on
-pub shard_at : (h : Header) (i : ℕ) (ss : List Shard) (k : ℕ) → k < length ss → ShardsFit h i ss → (s : Shard) × IsAt ss k s × ShardFits h (i + k) s
-shard_at h i [] k lt fit = absurd (omega (arith, lt))
-shard_at h i (s ∷ ss) zero lt fit = (s, first_at s ss, let e : i ≡ i + 0 = omega arith in rw (← e) fit.0)
-shard_at h i (s ∷ ss) (suc k) lt fit =
-    let more = shard_at h (i + 1) ss k (omega (arith, lt)) fit.1 in
+pub shard-at : (h : Header) (i : ℕ) (ss : List Shard) (k : ℕ) → k < length ss → ShardsFit h i ss → (s : Shard) × IsAt ss k s × ShardFits h (i + k) s
+shard-at h i [] k lt fit = absurd (omega (arith, lt))
+shard-at h i (s ∷ ss) zero lt fit = (s, first-at s ss, let e : i ≡ i + 0 = omega arith in rw (← e) fit.0)
+shard-at h i (s ∷ ss) (suc k) lt fit =
+    let more = shard-at h (i + 1) ss k (omega (arith, lt)) fit.1 in
     let e : i + 1 + k ≡ i + suc k = omega arith in
-    (more.0, later_at s ss k more.0 more.1, rw (← e) more.2)
+    (more.0, later-at s ss k more.0 more.1, rw (← e) more.2)
 
 -- an element that was got is at its place
-pub got_at : {A : Type 0} (xs : List A) (i : ℕ) (x : A) → slice_get xs i ≡ Some x → IsAt xs i x
-got_at [] i x e = absurd cc
-got_at (y ∷ xs) zero x e = let same : y ≡ x = cc in rw (← same) (first_at y xs)
-got_at (y ∷ xs) (suc i) x e = later_at y xs i x (got_at xs i x e)
+pub got-at : {A : Type 0} (xs : List A) (i : ℕ) (x : A) → slice_get xs i ≡ Some x → IsAt xs i x
+got-at [] i x e = absurd cc
+got-at (y ∷ xs) zero x e = let same : y ≡ x = cc in rw (← same) (first-at y xs)
+got-at (y ∷ xs) (suc i) x e = later-at y xs i x (got-at xs i x e)
 
 -- below the length there is one
-pub is_there : {A : Type 0} (xs : List A) (i : ℕ) → i < length xs → slice_get xs i ≡ None → ⊥
-is_there [] i lt e = omega (arith, lt)
-is_there (x ∷ xs) zero lt e = cc
-is_there (x ∷ xs) (suc i) lt e = is_there xs i (omega (arith, lt)) e
+pub is-there : {A : Type 0} (xs : List A) (i : ℕ) → i < length xs → slice_get xs i ≡ None → ⊥
+is-there [] i lt e = omega (arith, lt)
+is-there (x ∷ xs) zero lt e = cc
+is-there (x ∷ xs) (suc i) lt e = is-there xs i (omega (arith, lt)) e

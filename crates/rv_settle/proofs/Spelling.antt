@@ -15,7 +15,7 @@ use Rattle.rv_row.specs.RowReading.{IsRow}
 use Rattle.rv_row.specs.declared.rows.Row.{Row as RowData}
 use Rattle.rv_row.specs.declared.rows.RowRead.{RowRead}
 use Rattle.rv_row.specs.declared.rows.RowRead.TheVariants as read
-use Rattle.rv_settle.proofs.Places.{IsAt, place_of, shard_at}
+use Rattle.rv_settle.proofs.Places.{IsAt, place-of, shard-at}
 
 -- ---- rows
 
@@ -25,9 +25,9 @@ pub record BeginsWithRow (rs : List Row) (k : ℕ) (bytes tail : List ℕ) (r : 
   pub fits : RowFits r
   pub is : bytes ≡ row_bytes r ++ (flat_map row_bytes (drop (k + 1) rs) ++ tail)
 
-pub next_row : (rs : List Row) (k : ℕ) (bytes tail : List ℕ) → k < length rs → AllByRecursion RowFits rs → bytes ≡ flat_map row_bytes (drop k rs) ++ tail → (r : Row) × BeginsWithRow rs k bytes tail r
-next_row rs k bytes tail lt fit is =
-    let p = place_of RowFits rs k lt fit in
+pub next-row : (rs : List Row) (k : ℕ) (bytes tail : List ℕ) → k < length rs → AllByRecursion RowFits rs → bytes ≡ flat_map row_bytes (drop k rs) ++ tail → (r : Row) × BeginsWithRow rs k bytes tail r
+next-row rs k bytes tail lt fit is =
+    let p = place-of RowFits rs k lt fit in
     let r = p.0 in (
       r,
       record {
@@ -37,15 +37,15 @@ next_row rs k bytes tail lt fit is =
       },
     )
 
-pub behind_row : (rs : List Row) (k n : ℕ) (bytes tail : List ℕ) (r : Row) → BeginsWithRow rs k bytes tail r → n ≡ row_length r → drop n bytes ≡ flat_map row_bytes (drop (k + 1) rs) ++ tail
-behind_row rs k n bytes tail r b size =
+pub behind-row : (rs : List Row) (k n : ℕ) (bytes tail : List ℕ) (r : Row) → BeginsWithRow rs k bytes tail r → n ≡ row_length r → drop n bytes ≡ flat_map row_bytes (drop (k + 1) rs) ++ tail
+behind-row rs k n bytes tail r b size =
     ap (drop n) b.is ∙ drop_at (row_bytes r) (flat_map row_bytes (drop (k + 1) rs) ++ tail) n (length-row_bytes r ∙ sym size)
 
 -- what is no row is not this row
-pub no_row : (answer : RowRead) (r : Row) (n : ℕ) → IsRow answer r n → ((x : RowData) (k : ℕ) → answer ≡ read.Row x k → ⊥) → ⊥
-no_row (read.Row x k) r n is other = other x k refl
-no_row read.Short r n is other = is
-no_row read.Shape r n is other = is
+pub no-row : (answer : RowRead) (r : Row) (n : ℕ) → IsRow answer r n → ((x : RowData) (k : ℕ) → answer ≡ read.Row x k → ⊥) → ⊥
+no-row (read.Row x k) r n is other = other x k refl
+no-row read.Short r n is other = is
+no-row read.Shape r n is other = is
 
 -- ---- a shard
 
@@ -63,9 +63,9 @@ joined a b c d rest = simp append_assoc
 abbrev pub digests_and : Shard → List ℕ → List ℕ
 digests_and s rest = set_digest_bytes s.reads ++ (set_digest_bytes s.writes ++ rest)
 
-pub behind_head : (h : Header) (i : ℕ) (s : Shard) (bytes rest : List ℕ) → SpellShard h i s bytes rest → SpellRows s.rows (drop 32 bytes) (digests_and s rest)
+pub behind-head : (h : Header) (i : ℕ) (s : Shard) (bytes rest : List ℕ) → SpellShard h i s bytes rest → SpellRows s.rows (drop 32 bytes) (digests_and s rest)
 unfolding shard_bytes
-behind_head h i s bytes rest sp =
+behind-head h i s bytes rest sp =
     let rows = flat_map row_bytes s.rows in
     record {
       fit = sp.fits.each;
@@ -74,8 +74,8 @@ behind_head h i s bytes rest sp =
           ∙ drop_at (head_bytes s.head) (rows ++ digests_and s rest) 32 (length-head s.head);
     }
 
-pub behind_digests : (h : Header) (i : ℕ) (s : Shard) (rest : List ℕ) → ShardFits h i s → drop 256 (digests_and s rest) ≡ rest
-behind_digests h i s rest fits =
+pub behind-digests : (h : Header) (i : ℕ) (s : Shard) (rest : List ℕ) → ShardFits h i s → drop 256 (digests_and s rest) ≡ rest
+behind-digests h i s rest fits =
     let writes = set_digest_bytes s.writes ++ rest in
     let reads_size : length (set_digest_bytes s.reads) ≡ 128 = length-numbers s.reads ∙ ap (λ n. 8 * n) fits.reads.0 in
     let writes_size : length (set_digest_bytes s.writes) ≡ 128 = length-numbers s.writes ∙ ap (λ n. 8 * n) fits.writes.0 in
@@ -90,9 +90,9 @@ pub record BeginsWithShard (h : Header) (ss : List Shard) (k : ℕ) (bytes tail 
   pub at : IsAt ss k s
   pub spelled : SpellShard h k s bytes (flat_map shard_bytes (drop (k + 1) ss) ++ tail)
 
-pub next_shard : (h : Header) (ss : List Shard) (k : ℕ) (file bytes tail : List ℕ) → SpellShards h ss file tail → k < h.shards → bytes ≡ flat_map shard_bytes (drop k ss) ++ tail → (s : Shard) × BeginsWithShard h ss k bytes tail s
-next_shard h ss k file bytes tail sp lt is =
-    let p = shard_at h 0 ss k (omega (arith, lt, sp.count)) sp.fit in
+pub next-shard : (h : Header) (ss : List Shard) (k : ℕ) (file bytes tail : List ℕ) → SpellShards h ss file tail → k < h.shards → bytes ≡ flat_map shard_bytes (drop k ss) ++ tail → (s : Shard) × BeginsWithShard h ss k bytes tail s
+next-shard h ss k file bytes tail sp lt is =
+    let p = shard-at h 0 ss k (omega (arith, lt, sp.count)) sp.fit in
     let s = p.0 in
     let e : 0 + k ≡ k = omega arith in (
       s,
@@ -114,9 +114,9 @@ length-header h fits = simp length-append (omega (arith, fits.elf.0, fits.input.
 four : (a b c d : List ℕ) → ((a ++ b) ++ c) ++ d ≡ (a ++ b) ++ (c ++ d)
 four a b c d = append_assoc (a ++ b) c d
 
-pub behind_output : (p : Parts) (file : List ℕ) → Spells p file → SpellShards p.header p.shards (drop (173 + p.header.length) file) (table_bytes p.table)
+pub behind-output : (p : Parts) (file : List ℕ) → Spells p file → SpellShards p.header p.shards (drop (173 + p.header.length) file) (table_bytes p.table)
 unfolding file_bytes
-behind_output p file spells =
+behind-output p file spells =
     let front = header_bytes p.header ++ p.output in
     let rest = flat_map shard_bytes p.shards ++ table_bytes p.table in
     let long : length front ≡ 173 + p.header.length = length-append (header_bytes p.header) p.output ∙ omega (arith, length-header p.header spells.fit.header, spells.fit.output.0) in
@@ -127,9 +127,9 @@ behind_output p file spells =
     }
 
 -- the same, of a header and bytes that are these
-pub from_here : (p : Parts) (h : Header) (file bytes : List ℕ) → Spells p file → h ≡ p.header → bytes ≡ drop (173 + h.length) file → SpellShards h p.shards bytes (table_bytes p.table)
-from_here p h file bytes spells is from =
-    let at = behind_output p file spells in
+pub from-here : (p : Parts) (h : Header) (file bytes : List ℕ) → Spells p file → h ≡ p.header → bytes ≡ drop (173 + h.length) file → SpellShards h p.shards bytes (table_bytes p.table)
+from-here p h file bytes spells is from =
+    let at = behind-output p file spells in
     record {
       count = at.count ∙ ap (λ (k : Header). k.shards) (sym is);
       fit = subst (λ (k : Header). ShardsFit k 0 p.shards) (sym is) at.fit;

@@ -10,9 +10,7 @@ use Rattle.rv_spec.specs.Tuples.{Event, event, tuple_written}
 use Rattle.rv_rules.specs.Chain.{AllDiffer, value_before}
 use Rattle.rv_rules.specs.RowRules.{seen}
 use Rattle.rv_rules.specs.Membership.{In}
-use Rattle.rv_rules.proofs.Lemmas.{in-map}
-use Rattle.rv_rules.proofs.Lemmas.{last_use-is, left_at-is}
-use Rattle.rv_rules.proofs.Lemmas.{in-append, in-left, in-right, in-map-back, all-in}
+use Rattle.rv_rules.proofs.Lemmas.{in-map, last_use-is, left_at-is, in-append, in-left, in-right, in-map-back, all-in}
 use Rattle.rv_order.proofs.Lemmas.{last_use-most, last_use-in}
 use Rattle.rv_isa.specs.Shape.{AreShaped}
 use Rattle.rv_sound.proofs.RowFollows.{touch_in}

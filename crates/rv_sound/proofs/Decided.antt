@@ -4,8 +4,7 @@ use Rattle.std.specs.List.{AllByRecursion}
 use Rattle.std.proofs.lemmas.Bool.{eqb-true, eqb-false}
 use Rattle.rv_base.specs.declared.record.Tuple.{Tuple}
 use Rattle.rv_spec.specs.Multiset.{Same, count}
-use Rattle.rv_rules.proofs.Lemmas.{count-in}
-use Rattle.rv_rules.proofs.Lemmas.{in-left, in-right, all-in}
+use Rattle.rv_rules.proofs.Lemmas.{count-in, in-left, in-right, all-in}
 
 counted : (xs ys zs : List Tuple) → AllByRecursion (λ t. count t xs ≡ count t ys) zs ⊎ ((t : Tuple) × (¬ (count t xs ≡ count t ys)))
 counted xs ys [] = inl tt

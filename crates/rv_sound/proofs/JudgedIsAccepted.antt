@@ -21,11 +21,8 @@ use Rattle.rv_rules.specs.Checks.{Check, first_broken, unless_broken, ◌>>=◌}
 use Rattle.rv_rules.specs.RowRules.{row_checks, row_rule, place_after}
 use Rattle.rv_rules.specs.Reading.{Reading, header_of, head_of, row_of, digest_of, last_of, same_place, row_form, header_checks, read_row, read_rows, read_shard, read_shards, read_entries}
 use Rattle.rv_rules.specs.Verdict.{judge, parse}
-use Rattle.rv_rules.proofs.Lemmas.{left_true, right_true}
-use Rattle.rv_file.proofs.Lemmas.{bind_ok, unless_ok, unless_holds, ok_is}
-use Rattle.rv_file.proofs.Lemmas.{row_in, rows_in, with_row}
-use Rattle.rv_file.proofs.Lemmas.{shard_in, shards_in, with_shard, agrees, begins, made, ends}
-use Rattle.rv_file.proofs.Lemmas.{ends_parse, after_header, after_shards, after_count, all_checks, parse_is, form_is_grammar}
+use Rattle.rv_rules.proofs.Lemmas.{left-true, right-true}
+use Rattle.rv_file.proofs.Lemmas.{bind-ok, unless-ok, unless-holds, ok-is, row_in, rows_in, with_row, shard_in, shards_in, with_shard, agrees, begins, made, ends, ends_parse, after_header, after_shards, after_count, all_checks, parse-is, form-is-grammar}
 use Rattle.rv_sound.specs.Accepted.{place_through, RowsHold, ShardHolds, ShardsHold, entry_place, IsAccepted}
 use Rattle.rv_sound.proofs.Shards.{through-append}
 use Rattle.rv_sound.proofs.RowFollows.{AllHold, all-hold, none-broken}
@@ -48,9 +45,9 @@ module _ (lanes : Lanes) (elf input : List ℕ) where
       let step : ℕ = i * h.size + r in
       let rules : List Check = row_checks h.version (row_of bytes) step p (last_of h step) input output in
       let read : Reading Row = record { part = row_of bytes; place = place_after h.version (row_of bytes) p input; left = drop (9 + 21 * slice_index bytes 8) bytes } in
-      let u = unless_ok i r (row_form bytes ++ rules) read x e in
+      let u = unless-ok i r (row_form bytes ++ rules) read x e in
       let both = split-checks (row_form bytes) rules u.0 in
-      subst (λ (y : Reading Row). RowRead h output i r p q bytes y) u.1 (record { form = unless_holds i r (row_form bytes) (at_place read q) both.0; hold = both.1; place = refl })
+      subst (λ (y : Reading Row). RowRead h output i r p q bytes y) u.1 (record { form = unless-holds i r (row_form bytes) (at_place read q) both.0; hold = both.1; place = refl })
 
   record RowsRead (n : ℕ) (h : Header) (output : List ℕ) (i r : ℕ) (p q : Place) (bytes : List ℕ) (x : Reading (List Row)) : Type 0 where
     pub form : rows_in n h output i r q bytes ≡ Ok (at_place x q)
@@ -61,14 +58,14 @@ module _ (lanes : Lanes) (elf input : List ℕ) where
   unfolding read_rows
   rows-read zero h output i r p q bytes x e =
       let none : Reading (List Row) = record { part = []; place = p; left = bytes } in
-      subst (λ (y : Reading (List Row)). RowsRead zero h output i r p q bytes y) (ok_is none x e) (record { form = refl; hold = tt; place = refl })
+      subst (λ (y : Reading (List Row)). RowsRead zero h output i r p q bytes y) (ok-is none x e) (record { form = refl; hold = tt; place = refl })
   rows-read (suc n) h output i r p q bytes x e =
-      let a = bind_ok (read_row true lanes elf input h output i r p bytes) (λ first. Rows lanes elf input n h output i (r + 1) first.place first.left >>= λ others. Ok (with_row first others)) x e in
+      let a = bind-ok (read_row true lanes elf input h output i r p bytes) (λ first. Rows lanes elf input n h output i (r + 1) first.place first.left >>= λ others. Ok (with_row first others)) x e in
       let one : RowRead h output i r p q bytes a.0 = row-read h output i r p q bytes a.0 a.1 in
-      let b = bind_ok (Rows lanes elf input n h output i (r + 1) a.0.place a.0.left) (λ others. Ok (with_row a.0 others)) x a.2 in
+      let b = bind-ok (Rows lanes elf input n h output i (r + 1) a.0.place a.0.left) (λ others. Ok (with_row a.0 others)) x a.2 in
       let more : RowsRead n h output i (r + 1) a.0.place q a.0.left b.0 = rows-read n h output i (r + 1) a.0.place q a.0.left b.0 b.1 in
       let next : i * h.size + (r + 1) ≡ i * h.size + r + 1 = omega arith in
-      subst (λ (y : Reading (List Row)). RowsRead (suc n) h output i r p q bytes y) (ok_is (with_row a.0 b.0) x b.2) (record {
+      subst (λ (y : Reading (List Row)). RowsRead (suc n) h output i r p q bytes y) (ok-is (with_row a.0 b.0) x b.2) (record {
         form =
             ap (λ (z : Result (Reading Row) Refusal). z >>= λ first. rows_in n h output i (r + 1) first.place first.left >>= λ others. Ok (with_row first others)) one.form
             ∙ ap (λ (z : Result (Reading (List Row)) Refusal). z >>= λ others. Ok (with_row (at_place a.0 q) others)) more.form;
@@ -88,34 +85,34 @@ module _ (lanes : Lanes) (elf input : List ℕ) where
   shard-read h output i p q bytes x e =
       let n : ℕ = shard_rows h.size h.steps i in
       let head : ShardHead = head_of bytes in
-      let a = bind_ok (heads lanes elf input i n p bytes) (λ next. Rows lanes elf input n h output i 0 p next >>= finishes lanes elf input h i n head) x e in
-      let u = unless_ok i 0 ((1, nat_le 32 (length bytes)) ∷ (9, head.index == i && head.rows == n && same_place head p) ∷ []) (drop 32 bytes) a.0 a.1 in
+      let a = bind-ok (heads lanes elf input i n p bytes) (λ next. Rows lanes elf input n h output i 0 p next >>= finishes lanes elf input h i n head) x e in
+      let u = unless-ok i 0 ((1, nat_le 32 (length bytes)) ∷ (9, head.index == i && head.rows == n && same_place head p) ∷ []) (drop 32 bytes) a.0 a.1 in
       let c : AllHold ((1, nat_le 32 (length bytes)) ∷ (9, head.index == i && head.rows == n && same_place head p) ∷ []) = all-hold ((1, nat_le 32 (length bytes)) ∷ (9, head.index == i && head.rows == n && same_place head p) ∷ []) u.0 in
-      let counts : (head.index == i && head.rows == n) ≡ true = left_true (head.index == i && head.rows == n) (same_place head p) c.1.0 in
-      let placed : same_place head p ≡ true = right_true (head.index == i && head.rows == n) (same_place head p) c.1.0 in
-      let two : (head.pc == p.pc && head.input == p.input) ≡ true = left_true (head.pc == p.pc && head.input == p.input) (head.output == p.output) placed in
-      let b = bind_ok (Rows lanes elf input n h output i 0 p a.0) (finishes lanes elf input h i n head) x a.2 in
+      let counts : (head.index == i && head.rows == n) ≡ true = left-true (head.index == i && head.rows == n) (same_place head p) c.1.0 in
+      let placed : same_place head p ≡ true = right-true (head.index == i && head.rows == n) (same_place head p) c.1.0 in
+      let two : (head.pc == p.pc && head.input == p.input) ≡ true = left-true (head.pc == p.pc && head.input == p.input) (head.output == p.output) placed in
+      let b = bind-ok (Rows lanes elf input n h output i 0 p a.0) (finishes lanes elf input h i n head) x a.2 in
       let rows : RowsRead n h output i 0 p q a.0 b.0 = rows-read n h output i 0 p q a.0 b.0 b.1 in
-      let v = unless_ok i n ((20, rows_length b.0.part == head.bytes) ∷ (1, nat_le 256 (length b.0.left)) ∷ (21, digests_hold lanes elf input h i b.0) ∷ []) (made head b.0) x b.2 in
+      let v = unless-ok i n ((20, rows_length b.0.part == head.bytes) ∷ (1, nat_le 256 (length b.0.left)) ∷ (21, digests_hold lanes elf input h i b.0) ∷ []) (made head b.0) x b.2 in
       let d : AllHold ((20, rows_length b.0.part == head.bytes) ∷ (1, nat_le 256 (length b.0.left)) ∷ (21, digests_hold lanes elf input h i b.0) ∷ []) = all-hold ((20, rows_length b.0.part == head.bytes) ∷ (1, nat_le 256 (length b.0.left)) ∷ (21, digests_hold lanes elf input h i b.0) ∷ []) v.0 in
       let same_reads = bytes_eq (digest_of b.0.left) (digest lanes (map tuple_read (events (i * h.size) b.0.part))) in
       let same_writes = bytes_eq (digest_of (drop 128 b.0.left)) (digest lanes (map tuple_written (events (i * h.size) b.0.part))) in
       let from : i * h.size + 0 ≡ i * h.size = omega arith in
-      let begun : begins i n bytes ≡ Ok a.0 = unless_holds i 0 ((1, nat_le 32 (length bytes)) ∷ (9, agrees i n head) ∷ []) (drop 32 bytes)
+      let begun : begins i n bytes ≡ Ok a.0 = unless-holds i 0 ((1, nat_le 32 (length bytes)) ∷ (9, agrees i n head) ∷ []) (drop 32 bytes)
       (none-broken ((1, nat_le 32 (length bytes)) ∷ (9, agrees i n head) ∷ []) (c.0, (ap (λ b. b && true) counts, tt))) ∙ ap (λ (l : List ℕ). Ok l) u.1 in
-      let ended : ends i n head (at_place b.0 q) ≡ Ok (made head (at_place b.0 q)) = unless_holds i n ((20, rows_length b.0.part == head.bytes) ∷ (1, nat_le 256 (length b.0.left)) ∷ (21, true) ∷ []) (made head (at_place b.0 q))
+      let ended : ends i n head (at_place b.0 q) ≡ Ok (made head (at_place b.0 q)) = unless-holds i n ((20, rows_length b.0.part == head.bytes) ∷ (1, nat_le 256 (length b.0.left)) ∷ (21, true) ∷ []) (made head (at_place b.0 q))
       (none-broken ((20, rows_length b.0.part == head.bytes) ∷ (1, nat_le 256 (length b.0.left)) ∷ (21, true) ∷ []) (d.0, (d.1.0, (refl, tt)))) in
       subst (λ (y : Reading Shard). ShardRead h output i p q bytes y) v.1 (record {
         form =
             ap (λ (z : Result (List ℕ) Refusal). z >>= λ next. rows_in n h output i 0 q next >>= ends i n head) begun
             ∙ ap (λ (z : Result (Reading (List Row)) Refusal). z >>= ends i n head) rows.form ∙ ended;
         hold = record {
-          pc = eqb-true head.pc p.pc (left_true (head.pc == p.pc) (head.input == p.input) two);
-          taken = eqb-true head.input p.input (right_true (head.pc == p.pc) (head.input == p.input) two);
-          put = eqb-true head.output p.output (right_true (head.pc == p.pc && head.input == p.input) (head.output == p.output) placed);
+          pc = eqb-true head.pc p.pc (left-true (head.pc == p.pc) (head.input == p.input) two);
+          taken = eqb-true head.input p.input (right-true (head.pc == p.pc) (head.input == p.input) two);
+          put = eqb-true head.output p.output (right-true (head.pc == p.pc && head.input == p.input) (head.output == p.output) placed);
           rows = subst (λ k. RowsHold h input output k p b.0.part) from rows.hold;
-          reads = (bytes_eq-Decides (digest_of b.0.left) (digest lanes (map tuple_read (events (i * h.size) b.0.part)))).0 (left_true same_reads same_writes d.1.1.0);
-          writes = (bytes_eq-Decides (digest_of (drop 128 b.0.left)) (digest lanes (map tuple_written (events (i * h.size) b.0.part)))).0 (right_true same_reads same_writes d.1.1.0);
+          reads = (bytes_eq-Decides (digest_of b.0.left) (digest lanes (map tuple_read (events (i * h.size) b.0.part)))).0 (left-true same_reads same_writes d.1.1.0);
+          writes = (bytes_eq-Decides (digest_of (drop 128 b.0.left)) (digest lanes (map tuple_written (events (i * h.size) b.0.part)))).0 (right-true same_reads same_writes d.1.1.0);
         };
         place = rows.place;
       })
@@ -129,13 +126,13 @@ module _ (lanes : Lanes) (elf input : List ℕ) where
   unfolding read_shards
   shards-read zero h output i p q bytes x e =
       let none : Reading (List Shard) = record { part = []; place = p; left = bytes } in
-      subst (λ (y : Reading (List Shard)). ShardsRead zero h output i p q bytes y) (ok_is none x e) (record { form = refl; hold = tt; place = refl })
+      subst (λ (y : Reading (List Shard)). ShardsRead zero h output i p q bytes y) (ok-is none x e) (record { form = refl; hold = tt; place = refl })
   shards-read (suc n) h output i p q bytes x e =
-      let a = bind_ok (read_shard true lanes elf input h output i p bytes) (λ first. Shards lanes elf input n h output (i + 1) first.place first.left >>= λ others. Ok (with_shard first others)) x e in
+      let a = bind-ok (read_shard true lanes elf input h output i p bytes) (λ first. Shards lanes elf input n h output (i + 1) first.place first.left >>= λ others. Ok (with_shard first others)) x e in
       let one : ShardRead h output i p q bytes a.0 = shard-read h output i p q bytes a.0 a.1 in
-      let b = bind_ok (Shards lanes elf input n h output (i + 1) a.0.place a.0.left) (λ others. Ok (with_shard a.0 others)) x a.2 in
+      let b = bind-ok (Shards lanes elf input n h output (i + 1) a.0.place a.0.left) (λ others. Ok (with_shard a.0 others)) x a.2 in
       let more : ShardsRead n h output (i + 1) a.0.place q a.0.left b.0 = shards-read n h output (i + 1) a.0.place q a.0.left b.0 b.1 in
-      subst (λ (y : Reading (List Shard)). ShardsRead (suc n) h output i p q bytes y) (ok_is (with_shard a.0 b.0) x b.2) (record {
+      subst (λ (y : Reading (List Shard)). ShardsRead (suc n) h output i p q bytes y) (ok-is (with_shard a.0 b.0) x b.2) (record {
         form =
             ap (λ (z : Result (Reading Shard) Refusal). z >>= λ first. shards_in n h output (i + 1) first.place first.left >>= λ others. Ok (with_shard first others)) one.form
             ∙ ap (λ (z : Result (Reading (List Shard)) Refusal). z >>= λ others. Ok (with_shard (at_place a.0 q) others)) more.form;
@@ -169,26 +166,26 @@ module _ (lanes : Lanes) (elf input : List ℕ) where
       let h : Header = header_of file in
       let q : Place = record { pc = (image 1 []).entry; input = 0; output = 0 } in
       let checks : List Check = header_checks true lanes elf input file in
-      let a = bind_ok (unless_broken 0 0 checks (drop 173 file)) (from_header lanes elf input h) parts (sym (judged-by-steps lanes elf input file) ∙ e) in
-      let u = unless_ok 0 0 checks (drop 173 file) a.0 a.1 in
+      let a = bind-ok (unless_broken 0 0 checks (drop 173 file)) (from_header lanes elf input h) parts (sym (judged-by-steps lanes elf input file) ∙ e) in
+      let u = unless-ok 0 0 checks (drop 173 file) a.0 a.1 in
       let header = header-read file u.0 in
       let output : List ℕ = take h.length a.0 in
       let rest : List ℕ = drop h.length a.0 in
-      let b = bind_ok (Shards lanes elf input h.shards h output 0 (entry_place elf) rest) (from_shards lanes elf input h output) parts a.2 in
+      let b = bind-ok (Shards lanes elf input h.shards h output 0 (entry_place elf) rest) (from_shards lanes elf input h output) parts a.2 in
       let shards : ShardsRead h.shards h output 0 (entry_place elf) q rest b.0 = shards-read h.shards h output 0 (entry_place elf) q rest b.0 b.1 in
       let left : List ℕ = b.0.left in
-      let c = bind_ok (unless_broken h.shards 0 ((1, nat_le 4 (length left)) ∷ []) (drop 4 left)) (from_count lanes elf input h output b.0) parts b.2 in
+      let c = bind-ok (unless_broken h.shards 0 ((1, nat_le 4 (length left)) ∷ []) (drop 4 left)) (from_count lanes elf input h output b.0) parts b.2 in
       let count : ℕ = u32_at left 0 in
       let finish : List TableEntry × List ℕ → Result Parts Refusal = λ entries. unless_broken h.shards count (last_checks lanes elf input (record { header = h; output = output; shards = b.0.part; table = entries.0 }) b.0.place entries.1) (record { header = h; output = output; shards = b.0.part; table = entries.0 }) in
-      let d = bind_ok (read_entries count h 0 None c.0) finish parts c.2 in
+      let d = bind-ok (read_entries count h 0 None c.0) finish parts c.2 in
       let made : Parts = record { header = h; output = output; shards = b.0.part; table = d.0.0 } in
-      let v = unless_ok h.shards count (last_checks lanes elf input made b.0.place d.0.1) made parts d.2 in
+      let v = unless-ok h.shards count (last_checks lanes elf input made b.0.place d.0.1) made parts d.2 in
       let k : AllHold (last_checks lanes elf input made b.0.place d.0.1) = all-hold (last_checks lanes elf input made b.0.place d.0.1) v.0 in
-      let ended : ends_parse count made d.0.1 ≡ Ok made = unless_holds h.shards count ((25, true) ∷ (26, true) ∷ (27, length d.0.1 == 0) ∷ []) made (none-broken ((25, true) ∷ (26, true) ∷ (27, length d.0.1 == 0) ∷ []) (refl, (refl, k.1.1))) in
+      let ended : ends_parse count made d.0.1 ≡ Ok made = unless-holds h.shards count ((25, true) ∷ (26, true) ∷ (27, length d.0.1 == 0) ∷ []) made (none-broken ((25, true) ∷ (26, true) ∷ (27, length d.0.1 == 0) ∷ []) (refl, (refl, k.1.1))) in
       subst (λ (y : Parts). FileRead file y) v.1 (record {
         form =
-            parse_is file
-            ∙ ap (λ (z : Result (List ℕ) Refusal). z >>= after_header ends_parse h) (unless_holds 0 0 (all_checks file) (drop 173 file) header.0 ∙ ap (λ (l : List ℕ). Ok l) u.1)
+            parse-is file
+            ∙ ap (λ (z : Result (List ℕ) Refusal). z >>= after_header ends_parse h) (unless-holds 0 0 (all_checks file) (drop 173 file) header.0 ∙ ap (λ (l : List ℕ). Ok l) u.1)
             ∙ ap (λ (z : Result (Reading (List Shard)) Refusal). z >>= after_shards ends_parse h output) shards.form
             ∙ ap (λ (z : Result (List ℕ) Refusal). z >>= after_count ends_parse h output (at_place b.0 q)) c.1
             ∙ ap (λ (z : Result (List TableEntry × List ℕ) Refusal). z >>= λ entries. ends_parse count (record { header = h; output = output; shards = b.0.part; table = entries.0 }) entries.1) d.1
@@ -196,13 +193,13 @@ module _ (lanes : Lanes) (elf input : List ℕ) where
         elf_hash = header.1;
         input_hash = header.2;
         shards = shards.hold;
-        taken = ap (λ (s : Place). s.input) (sym shards.place) ∙ eqb-true b.0.place.input h.consumed (left_true (b.0.place.input == h.consumed) (b.0.place.output == h.length) k.0);
-        put = ap (λ (s : Place). s.output) (sym shards.place) ∙ eqb-true b.0.place.output h.length (right_true (b.0.place.input == h.consumed) (b.0.place.output == h.length) k.0);
+        taken = ap (λ (s : Place). s.input) (sym shards.place) ∙ eqb-true b.0.place.input h.consumed (left-true (b.0.place.input == h.consumed) (b.0.place.output == h.length) k.0);
+        put = ap (λ (s : Place). s.output) (sym shards.place) ∙ eqb-true b.0.place.output h.length (right-true (b.0.place.input == h.consumed) (b.0.place.output == h.length) k.0);
         balance = (bytes_eq-Decides (digest lanes (reads made)) (digest lanes (writes (image h.version elf) made))).0 k.1.0;
       })
 
   pub judged-accepted : (file : List ℕ) (parts : Parts) → AreBytes file → judge lanes elf input file ≡ Ok parts → Spells parts file × IsAccepted lanes elf input parts
   judged-accepted file parts bytes e =
       let r : FileRead file parts = file-read file parts e in
-      let spells : Spells parts file = (form_is_grammar file parts bytes).0 r.form in
+      let spells : Spells parts file = (form-is-grammar file parts bytes).0 r.form in
       (spells, record { fit = spells.fit; elf_hash = r.elf_hash; input_hash = r.input_hash; shards = r.shards; taken = r.taken; put = r.put; balance = r.balance })

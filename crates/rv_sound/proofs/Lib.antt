@@ -17,3 +17,4 @@ pub mod RecordAccepted
 pub mod ReadingSteps
 pub mod JudgedIsAccepted
 pub mod AcceptedIsJudged
+pub mod Lemmas

@@ -6,8 +6,7 @@ use Rattle.rv_spec.specs.Elf.{Image}
 use Rattle.rv_spec.specs.Trace.{row, rows}
 use Rattle.rv_rules.specs.Chain.{AllDiffer}
 use Rattle.rv_rules.specs.Membership.{In}
-use Rattle.rv_rules.proofs.Lemmas.{in-map}
-use Rattle.rv_rules.proofs.Lemmas.{in-left, in-map-back, all-in, all-of}
+use Rattle.rv_rules.proofs.Lemmas.{in-map, in-left, in-map-back, all-in, all-of}
 
 -- `suc` is how runs count, and `+ 1` how rows do
 pub next-number : (k : ℕ) → suc k ≡ k + 1

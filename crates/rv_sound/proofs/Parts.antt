@@ -21,8 +21,7 @@ use Rattle.rv_spec.specs.Grammar.{EntryFits}
 use Rattle.rv_rules.specs.Chain.{AreOrdered, IsChain}
 use Rattle.rv_rules.proofs.Lemmas.{chain}
 use Rattle.rv_elf.proofs.Lemmas.{image-is-program}
-use Rattle.rv_isa.proofs.Lemmas.{holds-last-uses}
-use Rattle.rv_isa.proofs.Lemmas.{runs-are-states}
+use Rattle.rv_isa.proofs.Lemmas.{holds-last-uses, runs-are-states}
 use Rattle.rv_sound.specs.Accepted.{place_through, RowsHold, entry_place, IsAccepted}
 use Rattle.rv_sound.proofs.Ordered.{ordered}
 use Rattle.rv_sound.proofs.Runs.{AreStepRows, rows-are-steps}
@@ -130,8 +129,8 @@ record-of lanes elf input parts faultless a r =
     let shards : parts.shards ≡ map (shard lanes m input h.size n) (range_with_len 0 (length parts.shards)) =
     shards-are lanes h input parts.output m (div_ceil n h.size) places (λ j. shard-starts n h.size j size_some) parts.shards 0 (entry_place elf) all
     (λ some. first ∙ ap (place_at m input) (sym from)) (r.are ∙ (λ t. rows m input (sym from t) (sym none t))) a.fit.shards a.shards in
-    let shard_count : length parts.shards ≡ div_ceil n h.size = omega (arith, all) in
-    let shards_all : parts.shards ≡ map (shard lanes m input h.size n) (range_with_len 0 (div_ceil n h.size)) = shards ∙ ap (λ k. map (shard lanes m input h.size n) (range_with_len 0 k)) shard_count in
+    let shard-count : length parts.shards ≡ div_ceil n h.size = omega (arith, all) in
+    let shards_all : parts.shards ≡ map (shard lanes m input h.size n) (range_with_len 0 (div_ceil n h.size)) = shards ∙ ap (λ k. map (shard lanes m input h.size n) (range_with_len 0 k)) shard-count in
     record {
       has = record {
         version_within = a.fit.header.version;

@@ -20,14 +20,13 @@ use Rattle.rv_spec.specs.Trace.{Row, row, rows, table}
 use Rattle.rv_spec.specs.Tuples.{events, tuple_read, tuple_written, all_read, all_written}
 use Rattle.rv_spec.specs.Digest.{Lanes, digest, digest_lane, lane_numbers}
 use Rattle.std.specs.Prelude.{sum_by, slice_index}
-use Rattle.rv_rules.proofs.Lemmas.{all-of}
+use Rattle.rv_rules.proofs.Lemmas.{all-of, digest-same}
 use Rattle.rv_spec.specs.Multiset.{Same}
 use Rattle.rv_spec.specs.Record.{Shard, reads, writes, shard_rows, place_at, shard, header, record_parts, record_file}
 use Rattle.rv_spec.specs.Conclusion.{HasRecord}
 use Rattle.rv_spec.specs.Grammar.{AreNumbers, RowFits, ShardsFit, Spells}
 use Rattle.rv_rules.specs.Chain.{AreOrdered}
 use Rattle.rv_rules.specs.Agreement.{IsState}
-use Rattle.rv_rules.proofs.Lemmas.{digest-same}
 use Rattle.rv_elf.proofs.Lemmas.{image-is-program}
 use Rattle.rv_isa.specs.Ranges.{EndFits, StepFits}
 use Rattle.rv_isa.proofs.Lemmas.{runs-are-states, runs-fit}

@@ -13,7 +13,7 @@ use Rattle.rv_spec.specs.Trace.{Row}
 use Rattle.rv_rules.specs.Checks.{Check, first_broken}
 use Rattle.rv_rules.specs.Expected.{Expected}
 use Rattle.rv_rules.specs.RowRules.{due, row_rule, row_checks, ends_as}
-use Rattle.rv_rules.proofs.Lemmas.{left_true, right_true}
+use Rattle.rv_rules.proofs.Lemmas.{left-true, right-true}
 
 -- an access without its old value and the time before
 abbrev pub touch_in : Access → Touch
@@ -48,8 +48,8 @@ pub none-broken : (cs : List Check) → AllHold cs → first_broken cs ≡ None
 none-broken [] h = refl
 none-broken (c ∷ cs) h = ap (λ b. cond b (first_broken cs) (Some c.0)) h.0 ∙ none-broken cs h.1
 
-same_lists : (xs ys : List ℕ) → bytes_eq xs ys ≡ true → xs ≡ ys
-same_lists xs ys e = (bytes_eq-Decides xs ys).0 e
+same-lists : (xs ys : List ℕ) → bytes_eq xs ys ≡ true → xs ≡ ys
+same-lists xs ys e = (bytes_eq-Decides xs ys).0 e
 
 -- lists with the same slots, cells and new values are the same accesses
 same-touches : (accs : List Access) (ts : List Touch) → map (λ a. a.slot) accs ≡ map (λ t. t.slot) ts → map (λ a. a.cell) accs ≡ map (λ t. t.cell) ts → map (λ a. a.new) accs ≡ map (λ t. t.new) ts → map touch_in accs ≡ ts
@@ -69,8 +69,8 @@ same-touches (a ∷ accs) (t ∷ ts) p q r =
 earlier-all : (step : ℕ) (accs : List Access) → list_all (λ a. nat_lt a.prev (time_of step a.slot)) accs ≡ true → AllByRecursion (λ a. a.prev < time_of step a.slot) accs
 earlier-all step [] e = tt
 earlier-all step (a ∷ accs) e = (
-  ltb-true a.prev (time_of step a.slot) (left_true (nat_lt a.prev (time_of step a.slot)) (list_all (λ a. nat_lt a.prev (time_of step a.slot)) accs) e),
-  earlier-all step accs (right_true (nat_lt a.prev (time_of step a.slot)) (list_all (λ a. nat_lt a.prev (time_of step a.slot)) accs) e),
+  ltb-true a.prev (time_of step a.slot) (left-true (nat_lt a.prev (time_of step a.slot)) (list_all (λ a. nat_lt a.prev (time_of step a.slot)) accs) e),
+  earlier-all step accs (right-true (nat_lt a.prev (time_of step a.slot)) (list_all (λ a. nat_lt a.prev (time_of step a.slot)) accs) e),
 )
 
 -- a row that breaks no rule follows its expected step
@@ -89,7 +89,7 @@ row-follows version row step place last input output e =
     let c19 = c18.1 in
     record {
       pc = eqb-true row.pc place.pc c11.0;
-      touches = same-touches row.accesses d.touches (same_lists (map (λ a. a.slot) row.accesses) (map (λ t. t.slot) d.touches) c12.0) (same_lists (map (λ a. a.cell) row.accesses) (map (λ t. t.cell) d.touches) c13.0) (same_lists (map (λ a. a.new) row.accesses) (map (λ t. t.new) d.touches) c14.0);
+      touches = same-touches row.accesses d.touches (same-lists (map (λ a. a.slot) row.accesses) (map (λ t. t.slot) d.touches) c12.0) (same-lists (map (λ a. a.cell) row.accesses) (map (λ t. t.cell) d.touches) c13.0) (same-lists (map (λ a. a.new) row.accesses) (map (λ t. t.new) d.touches) c14.0);
       earlier = earlier-all step row.accesses c15.0;
       next = eqb-true row.next d.next c16.0;
       put = (drop (length d.put) (drop place.output output), (starts_is Decides-eqb (drop place.output output) d.put (starts_with nat_eq (drop place.output output) d.put) refl).0 c17.0);

@@ -22,8 +22,7 @@ use Rattle.rv_rules.specs.Expected.{Expected, expected}
 use Rattle.rv_rules.specs.RowRules.{seen, same_end, ends_as, due, row_rule, row_checks, place_after}
 use Rattle.rv_rules.specs.Agreement.{IsState, GoesAs, Agrees, touch_of}
 use Rattle.rv_order.proofs.Lemmas.{last_use-lt}
-use Rattle.rv_isa.proofs.Lemmas.{steps-agree}
-use Rattle.rv_isa.proofs.Lemmas.{run-version, step-slots-rise, all-within}
+use Rattle.rv_isa.proofs.Lemmas.{steps-agree, run-version, step-slots-rise, all-within}
 use Rattle.rv_sound.specs.Accepted.{place_through, RowsHold}
 use Rattle.rv_sound.proofs.RowFollows.{none-broken}
 use Rattle.rv_sound.proofs.Runs.{goes-end, goes-next, goes-put, place-next}

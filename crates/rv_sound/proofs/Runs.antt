@@ -23,7 +23,7 @@ use Rattle.rv_rules.specs.Reading.{last_of}
 use Rattle.rv_rules.specs.Expected.{Expected, expected}
 use Rattle.rv_rules.specs.RowRules.{seen, same_end, ends_as, due, place_after}
 use Rattle.rv_rules.specs.Agreement.{IsState, GoesAs, touch_of, HoldsLastUses}
-use Rattle.rv_rules.proofs.Lemmas.{left_true, right_true}
+use Rattle.rv_rules.proofs.Lemmas.{left-true, right-true}
 use Rattle.rv_isa.specs.Follows.{SeesTouches}
 use Rattle.rv_sound.specs.Accepted.{place_through, RowsHold}
 use Rattle.rv_sound.proofs.RowFollows.{touch_in, RowFollows, row-follows}
@@ -55,8 +55,8 @@ goes-put e s (Ends f) h = ap (λ (l : List ℕ). s.output ++ l) h.3 ∙ append-n
 same-ends : (e : End) (o : Option End) → same_end e o ≡ true → o ≡ Some e
 same-ends e None h = absurd cc
 same-ends e (Some f) h =
-    let kind : e.kind ≡ f.kind = eqb-true e.kind f.kind (left_true (e.kind == f.kind) (e.code == f.code) h) in
-    let code : e.code ≡ f.code = eqb-true e.code f.code (right_true (e.kind == f.kind) (e.code == f.code) h) in
+    let kind : e.kind ≡ f.kind = eqb-true e.kind f.kind (left-true (e.kind == f.kind) (e.code == f.code) h) in
+    let code : e.code ≡ f.code = eqb-true e.code f.code (right-true (e.kind == f.kind) (e.code == f.code) h) in
     λ i. Some (record { kind = sym kind i; code = sym code i })
 
 none-ends : (o : Option End) → (is_none o || false) ≡ true → o ≡ None

@@ -10,9 +10,8 @@ use Rattle.rv_spec.specs.Cells.{time_of, is_cell}
 use Rattle.rv_spec.specs.Visits.{Use, visit, step_uses, visits}
 use Rattle.rv_spec.specs.Trace.{tuples_left, history, rising, last_use, left_at, last_entry, table_of, table}
 use Rattle.rv_spec.specs.Tuples.{Event}
-use Rattle.rv_rules.proofs.Lemmas.{all-of, all-in, in-map-back, in-rising, rising-rises}
+use Rattle.rv_rules.proofs.Lemmas.{all-of, all-in, in-map-back, in-rising, rising-rises, in-map}
 use Rattle.rv_rules.specs.Membership.{In}
-use Rattle.rv_rules.proofs.Lemmas.{in-map}
 use Rattle.rv_order.proofs.Lemmas.{last_use-lt}
 use Rattle.rv_spec.specs.Grammar.{EntryFits, IsRising}
 use Rattle.rv_rules.specs.Chain.{AreOrdered}

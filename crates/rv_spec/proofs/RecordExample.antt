@@ -15,22 +15,22 @@ elf =
     ∷ 0 ∷ 0 ∷ 1 ∷ 0 ∷ 0x0C ∷ 0 ∷ 0 ∷ 0 ∷ 0x0C ∷ 0 ∷ 0 ∷ 0 ∷ 7 ∷ 0 ∷ 0 ∷ 0
     ∷ 4 ∷ 0 ∷ 0 ∷ 0 ∷ 0x13 ∷ 5 ∷ 0xA0 ∷ 2 ∷ 0x93 ∷ 8 ∷ 0xD0 ∷ 5 ∷ 0x73 ∷ 0 ∷ 0 ∷ 0 ∷ []
 
-no_fault : first_fault elf ≡ None
+no-fault : first_fault elf ≡ None
 unfolding computes
-no_fault = refl
+no-fault = refl
 
-the_image : image 1 elf ≡ record { version = 1; entry = 0x10000; blocks = record { address = 0x10000; bytes = 0x13 ∷ 0x05 ∷ 0xA0 ∷ 0x02 ∷ 0x93 ∷ 0x08 ∷ 0xD0 ∷ 0x05 ∷ 0x73 ∷ 0 ∷ 0 ∷ 0 ∷ [] } ∷ [] }
+the-image : image 1 elf ≡ record { version = 1; entry = 0x10000; blocks = record { address = 0x10000; bytes = 0x13 ∷ 0x05 ∷ 0xA0 ∷ 0x02 ∷ 0x93 ∷ 0x08 ∷ 0xD0 ∷ 0x05 ∷ 0x73 ∷ 0 ∷ 0 ∷ 0 ∷ [] } ∷ [] }
 unfolding computes
-the_image = refl
+the-image = refl
 
-short_fault : first_fault [] ≡ Some 1
+short-fault : first_fault [] ≡ Some 1
 unfolding computes
-short_fault = refl
+short-fault = refl
 
 -- its record in one shard of three rows
 abbrev pub file : List ℕ
 file = record_file sha_lanes 1 elf [] 3 3 (record { kind = 0; code = 42 })
 
-file_length : length file ≡ 719
+file-length : length file ≡ 719
 unfolding computes
-file_length = refl
+file-length = refl

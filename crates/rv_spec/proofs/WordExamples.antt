@@ -40,25 +40,25 @@ sc : decode_any 2 0x1862A3AF ≡ Some (rv32a (record { op = amo.Sc; rd = 7; rs1 
 unfolding decode_any decode decode_atomic rv32im_table rv32a_table
 sc = refl
 
-sc_in_version_1 : decode_any 1 0x1862A3AF ≡ None
+sc-in-version-1 : decode_any 1 0x1862A3AF ≡ None
 unfolding decode_any decode decode_atomic rv32im_table rv32a_table
-sc_in_version_1 = refl
+sc-in-version-1 = refl
 
-div_overflow : compute op.Div 0x80000000 0xFFFFFFFF ≡ 0x80000000
+div-overflow : compute op.Div 0x80000000 0xFFFFFFFF ≡ 0x80000000
 unfolding compute
-div_overflow = refl
+div-overflow = refl
 
-rem_overflow : compute op.Rem 0x80000000 0xFFFFFFFF ≡ 0
+rem-overflow : compute op.Rem 0x80000000 0xFFFFFFFF ≡ 0
 unfolding compute
-rem_overflow = refl
+rem-overflow = refl
 
-div_by_zero : compute op.Div 7 0 ≡ 0xFFFFFFFF
+div-by-zero : compute op.Div 7 0 ≡ 0xFFFFFFFF
 unfolding compute
-div_by_zero = refl
+div-by-zero = refl
 
-rem_by_zero : compute op.Rem 7 0 ≡ 7
+rem-by-zero : compute op.Rem 7 0 ≡ 7
 unfolding compute
-rem_by_zero = refl
+rem-by-zero = refl
 
 mulh : compute op.Mulh 0x80000000 0x80000000 ≡ 0x40000000
 unfolding compute
@@ -75,5 +75,5 @@ mulhu = refl
 cells : map (is_cell 1) (0 ∷ (2 ^ 30 - 1) ∷ (2 ^ 30) ∷ (2 ^ 30 + 1) ∷ (2 ^ 30 + 31) ∷ (2 ^ 30 + 32) ∷ []) ≡ true ∷ true ∷ false ∷ true ∷ true ∷ false ∷ []
 cells = refl
 
-cells_2 : map (is_cell 2) (0 ∷ (2 ^ 30) ∷ (2 ^ 30 + 31) ∷ (2 ^ 30 + 32) ∷ (2 ^ 30 + 33) ∷ []) ≡ true ∷ false ∷ true ∷ true ∷ false ∷ []
-cells_2 = refl
+cells-2 : map (is_cell 2) (0 ∷ (2 ^ 30) ∷ (2 ^ 30 + 31) ∷ (2 ^ 30 + 32) ∷ (2 ^ 30 + 33) ∷ []) ≡ true ∷ false ∷ true ∷ true ∷ false ∷ []
+cells-2 = refl

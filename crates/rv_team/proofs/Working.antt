@@ -8,18 +8,18 @@ use Rattle.rv_team.specs.Work.{IsDone, AreDone}
 
 -- a list with one element more
 module _ {X : Type 0} where
-  first_same : (xs : List X) (y d : X) (k : ℕ) → k < length xs → slice_index_or (xs ++ y ∷ []) k d ≡ slice_index_or xs k d
-  first_same [] y d k lt = absurd (omega (arith, lt))
-  first_same (x ∷ xs) y d zero lt = refl
-  first_same (x ∷ xs) y d (suc k) lt = first_same xs y d k (omega (arith, lt))
+  first-same : (xs : List X) (y d : X) (k : ℕ) → k < length xs → slice_index_or (xs ++ y ∷ []) k d ≡ slice_index_or xs k d
+  first-same [] y d k lt = absurd (omega (arith, lt))
+  first-same (x ∷ xs) y d zero lt = refl
+  first-same (x ∷ xs) y d (suc k) lt = first-same xs y d k (omega (arith, lt))
 
-  last_is : (xs : List X) (y d : X) → slice_index_or (xs ++ y ∷ []) (length xs) d ≡ y
-  last_is [] y d = refl
-  last_is (x ∷ xs) y d = last_is xs y d
+  last-is : (xs : List X) (y d : X) → slice_index_or (xs ++ y ∷ []) (length xs) d ≡ y
+  last-is [] y d = refl
+  last-is (x ∷ xs) y d = last-is xs y d
 
 -- the passes of several workers, with that of one more
-pub done_more : (ps rest : List Pass) (last q : Pass) (qs done : List Pass) → ps ≡ rest ++ last ∷ [] → AreDone rest done → IsDone last q → qs ≡ done ++ q ∷ [] → AreDone ps qs
-done_more ps rest last q qs done ep r d eq = subst (λ us. AreDone us qs) (sym ep) (subst (λ us. AreDone (rest ++ last ∷ []) us) (sym eq) (
+pub done-more : (ps rest : List Pass) (last q : Pass) (qs done : List Pass) → ps ≡ rest ++ last ∷ [] → AreDone rest done → IsDone last q → qs ≡ done ++ q ∷ [] → AreDone ps qs
+done-more ps rest last q qs done ep r d eq = subst (λ us. AreDone us qs) (sym ep) (subst (λ us. AreDone (rest ++ last ∷ []) us) (sym eq) (
   length-append done (q ∷ []) ∙ ap (λ n. n + 1) r.0 ∙ sym (length-append rest (last ∷ [])),
   λ k z lt. at k z (k == length rest) refl (omega (arith, lt, length-append rest (last ∷ []))),
 ))
@@ -28,9 +28,9 @@ done_more ps rest last q qs done ep r d eq = subst (λ us. AreDone us qs) (sym e
     at k z true e lt =
         let here : k ≡ length rest = grind (arith, nat_tests) in
         let there : k ≡ length done = omega (arith, here, r.0) in
-        subst (λ u. IsDone u (slice_index_or (done ++ q ∷ []) k z)) (sym (ap (λ j. slice_index_or (rest ++ last ∷ []) j z) here ∙ last_is rest last z))
-        (subst (λ u. IsDone last u) (sym (ap (λ j. slice_index_or (done ++ q ∷ []) j z) there ∙ last_is done q z)) d)
+        subst (λ u. IsDone u (slice_index_or (done ++ q ∷ []) k z)) (sym (ap (λ j. slice_index_or (rest ++ last ∷ []) j z) here ∙ last-is rest last z))
+        (subst (λ u. IsDone last u) (sym (ap (λ j. slice_index_or (done ++ q ∷ []) j z) there ∙ last-is done q z)) d)
     at k z false e lt =
         let before : k < length rest = (let far : k ≢ length rest = grind (arith, nat_tests) in omega (arith, far, lt)) in
-        subst (λ u. IsDone u (slice_index_or (done ++ q ∷ []) k z)) (sym (first_same rest last z k before))
-        (subst (λ u. IsDone (slice_index_or rest k z) u) (sym (first_same done q z k (omega (arith, before, r.0)))) (r.1 k z before))
+        subst (λ u. IsDone u (slice_index_or (done ++ q ∷ []) k z)) (sym (first-same rest last z k before))
+        (subst (λ u. IsDone (slice_index_or rest k z) u) (sym (first-same done q z k (omega (arith, before, r.0)))) (r.1 k z before))

@@ -11,6 +11,6 @@ padded n =
     let short : 8 - length (hex n) - 0 - 0 ≡ 8 - length (hex n) = omega arith in
     ap (λ k. replicate k 48 ++ (hex n ++ [])) short ∙ ap (λ d. replicate (8 - length (hex n)) 48 ++ d) (append-nil (hex n))
 
-pub on_ok : {P Q E : Type 0} (r : Result (Unit {0}) E) → (P → Q) → OnOk r P → OnOk r Q
-on_ok (Ok x) f h = f h
-on_ok (Err e) f h = h
+pub on-ok : {P Q E : Type 0} (r : Result (Unit {0}) E) → (P → Q) → OnOk r P → OnOk r Q
+on-ok (Ok x) f h = f h
+on-ok (Err e) f h = h

@@ -11,32 +11,32 @@ use Rattle.rv_row.specs.declared.rows.RowRead.{RowRead}
 use Rattle.rv_row.specs.declared.rows.RowRead.TheVariants as read
 use Rattle.rv_row.proofs.Lemmas.{length-row_bytes}
 use Rattle.rv_text.specs.Within.{here, lines_within}
-use Rattle.rv_text.proofs.Within.{at_place, within-append, within-one}
+use Rattle.rv_text.proofs.Within.{at-place, within-append, within-one}
 
-pub take_rest : (n : ℕ) (xs : List ℕ) → take (length xs - n) (drop n xs) ≡ drop n xs
-take_rest n xs = take_all (length xs - n) (drop n xs) (omega (arith, length-drop n xs))
+pub take-rest : (n : ℕ) (xs : List ℕ) → take (length xs - n) (drop n xs) ≡ drop n xs
+take-rest n xs = take_all (length xs - n) (drop n xs) (omega (arith, length-drop n xs))
 
 -- what isn't a row is no row
-pub not_row : (result : RowRead) (x : Row) (k : ℕ) → ((r : RowOfCode) (n : ℕ) → result ≡ read.Row r n → ⊥) → IsRow result x k → ⊥
-not_row (read.Row r n) x k other is = other r n refl
-not_row read.Short x k other is = is
-not_row read.Shape x k other is = is
+pub not-row : (result : RowRead) (x : Row) (k : ℕ) → ((r : RowOfCode) (n : ℕ) → result ≡ read.Row r n → ⊥) → IsRow result x k → ⊥
+not-row (read.Row r n) x k other is = other r n refl
+not-row read.Short x k other is = is
+not-row read.Shape x k other is = is
 
-pub row_there : (r : ℕ) (rs : List Row) (tail rest : List ℕ) → AllByRecursion RowFits rs → r < length rs → rest ≡ flat_map row_bytes (drop r rs) ++ tail
+pub row-there : (r : ℕ) (rs : List Row) (tail rest : List ℕ) → AllByRecursion RowFits rs → r < length rs → rest ≡ flat_map row_bytes (drop r rs) ++ tail
     → (x : Row) × (more : List ℕ) × RowFits x × (rest ≡ row_bytes x ++ more)
-row_there r rs tail rest fit lt e =
-    let at = at_place RowFits rs r lt fit in
+row-there r rs tail rest fit lt e =
+    let at = at-place RowFits rs r lt fit in
     (at.0, flat_map row_bytes at.1 ++ tail, at.2.holds, e ∙ ap (λ l. flat_map row_bytes l ++ tail) at.2.from ∙ append_assoc (row_bytes at.0) (flat_map row_bytes at.1) tail)
 
-pub row_step : (version from until first r : ℕ) (rs : List Row) (tail rest old text text' : List ℕ) (row : Row) (n : ℕ)
+pub row-step : (version from until first r : ℕ) (rs : List Row) (tail rest old text text' : List ℕ) (row : Row) (n : ℕ)
     → AllByRecursion RowFits rs → r < length rs
     → rest ≡ flat_map row_bytes (drop r rs) ++ tail
     → text ≡ old ++ lines_within version from until first (take r rs)
     → ((x : Row) (more : List ℕ) → RowFits x → rest ≡ row_bytes x ++ more → (row ≡ x) × (n ≡ row_length x))
     → text' ≡ text ++ here version from until (first + r) row
     → (drop n rest ≡ flat_map row_bytes (drop (r + 1) rs) ++ tail) × (text' ≡ old ++ lines_within version from until first (take (r + 1) rs))
-row_step version from until first r rs tail rest old text text' row n fit lt e e-text only e-new =
-    let at = at_place RowFits rs r lt fit in
+row-step version from until first r rs tail rest old text text' row n fit lt e e-text only e-new =
+    let at = at-place RowFits rs r lt fit in
     let x : Row = at.0 in
     let more : List ℕ = flat_map row_bytes at.1 ++ tail in
     let begins : rest ≡ row_bytes x ++ more = e ∙ ap (λ l. flat_map row_bytes l ++ tail) at.2.from ∙ append_assoc (row_bytes x) (flat_map row_bytes at.1) tail in

@@ -12,7 +12,7 @@ use Rattle.rv_spec.specs.Grammar.{PartsFit}
 use Rattle.rv_text.specs.Listing.{lines_from, listing}
 use Rattle.rv_text.specs.Within.{lines_within}
 use Rattle.rv_text.proofs.Within.{within-append, within-after, within-is}
-use Rattle.rv_text.proofs.Shards.{rows_in, rows_most, rows_exact, sized, BeginsWith}
+use Rattle.rv_text.proofs.Shards.{rows_in, rows-most, rows-exact, sized, BeginsWith}
 
 module _ (p : Parts) (fit : PartsFit p) (from until : ℕ) where
   -- the lines of the first shards
@@ -20,12 +20,12 @@ module _ (p : Parts) (fit : PartsFit p) (from until : ℕ) where
   listed k = lines_within p.header.version from until 0 (rows_in (take k p.shards))
 
   exact : (k : ℕ) → k < length p.shards → length (rows_in (take k p.shards)) ≡ k * p.header.size
-  exact k lt = rows_exact p.header 0 p.shards k fit.shards lt (let more : k * p.header.size < p.header.steps = (sized p fit).less k (omega (arith, fit.count)) in omega arith)
+  exact k lt = rows-exact p.header 0 p.shards k fit.shards lt (let more : k * p.header.size < p.header.steps = (sized p fit).less k (omega (arith, fit.count)) in omega arith)
 
-  pub shard_step : (k : ℕ) (rest text text' : List ℕ) (s : Shard) → k < length p.shards → BeginsWith p k rest s → text ≡ listed k
+  pub shard-step : (k : ℕ) (rest text text' : List ℕ) (s : Shard) → k < length p.shards → BeginsWith p k rest s → text ≡ listed k
       → text' ≡ text ++ lines_within p.header.version from until (k * p.header.size) s.rows
       → text' ≡ listed (k + 1)
-  shard_step k rest text text' s lt at e more =
+  shard-step k rest text text' s lt at e more =
       let before : List Row = rows_in (take k p.shards) in
       let rows : rows_in (take (k + 1) p.shards) ≡ before ++ s.rows =
       ap rows_in at.front ∙ flat_map-append (λ (t : Shard). t.rows) (take k p.shards) (s ∷ []) ∙ ap (λ l. before ++ l) (append-nil s.rows) in
@@ -36,11 +36,11 @@ module _ (p : Parts) (fit : PartsFit p) (from until : ℕ) where
       ∙ sym (within-append p.header.version from until 0 before s.rows)
       ∙ ap (λ l. lines_within p.header.version from until 0 l) (sym rows)
 
-  all_listed : (k : ℕ) → length p.shards ≤ k → listed k ≡ lines_within p.header.version from until 0 (rows_in p.shards)
-  all_listed k le = ap (λ ss. lines_within p.header.version from until 0 (rows_in ss)) (take_all k p.shards le)
+  all-listed : (k : ℕ) → length p.shards ≤ k → listed k ≡ lines_within p.header.version from until 0 (rows_in p.shards)
+  all-listed k le = ap (λ ss. lines_within p.header.version from until 0 (rows_in ss)) (take_all k p.shards le)
 
-  pub shards_end : (k : ℕ) → (length p.shards ≤ k) ⊎ (until ≤ k * p.header.size) → listed k ≡ lines_within p.header.version from until 0 (rows_in p.shards)
-  shards_end k over = ⊎_elim
+  pub shards-end : (k : ℕ) → (length p.shards ≤ k) ⊎ (until ≤ k * p.header.size) → listed k ≡ lines_within p.header.version from until 0 (rows_in p.shards)
+  shards-end k over = ⊎_elim
       (λ lt. ⊎_elim
       (λ le. absurd (omega arith))
       (λ le.
@@ -55,37 +55,37 @@ module _ (p : Parts) (fit : PartsFit p) (from until : ℕ) where
       ∙ append-nil (listed k)
       ))
       over)
-      (λ le. all_listed k le)
+      (λ le. all-listed k le)
       (cases_lt k (length p.shards))
 
   -- the loop ends behind the shard of the last step that is asked for
-  pub last_listed : (k : ℕ) → min (div_ceil until p.header.size) p.header.shards ≤ k → listed k ≡ lines_within p.header.version from until 0 (rows_in p.shards)
-  last_listed k le = ⊎_elim
+  pub last-listed : (k : ℕ) → min (div_ceil until p.header.size) p.header.shards ≤ k → listed k ≡ lines_within p.header.version from until 0 (rows_in p.shards)
+  last-listed k le = ⊎_elim
       (λ lt.
       let most : div_ceil until p.header.size * p.header.size ≤ k * p.header.size = mul-le-mul_right p.header.size (omega (arith, fit.count)) in
       let ceil = div_ceil_times until p.header.size (omega (arith, fit.header.size)) in
-      shards_end k (inr (omega (arith, most, ceil.0))))
-      (λ past. shards_end k (inl past))
+      shards-end k (inr (omega (arith, most, ceil.0))))
+      (λ past. shards-end k (inl past))
       (cases_lt k (length p.shards))
 
 -- the rows of a shard end with the steps
-pub steps_within : (p : Parts) (k : ℕ) → PartsFit p → k < length p.shards → k * p.header.size + shard_rows p.header.size p.header.steps k ≤ 2 ^ 32
-steps_within p k fit lt =
+pub steps-within : (p : Parts) (k : ℕ) → PartsFit p → k < length p.shards → k * p.header.size + shard_rows p.header.size p.header.steps k ≤ 2 ^ 32
+steps-within p k fit lt =
     let whole = sized p fit in
     let less : k * p.header.size < p.header.steps = whole.less k (omega (arith, fit.count)) in
     omega (arith, less, whole.within)
 
 -- ---- by number
 
-pub nothing_listed : (p : Parts) → PartsFit p → (from count : ℕ) → p.header.steps ≤ from → listing p from count ≡ []
+pub nothing-listed : (p : Parts) → PartsFit p → (from count : ℕ) → p.header.steps ≤ from → listing p from count ≡ []
 unfolding listing lines_from
-nothing_listed p fit from count le =
-    ap (λ rs. lines_from p.header.version from (take count rs)) (drop_all from (rows_in p.shards) (omega (arith, rows_most p.header 0 p.shards fit.shards)))
+nothing-listed p fit from count le =
+    ap (λ rs. lines_from p.header.version from (take count rs)) (drop_all from (rows_in p.shards) (omega (arith, rows-most p.header 0 p.shards fit.shards)))
     ∙ ap (λ rs. lines_from p.header.version from rs) (take-nil count)
 
-pub all_within : (p : Parts) (from count : ℕ) → lines_within p.header.version from (from + count) 0 (rows_in p.shards) ≡ listing p from count
+pub all-within : (p : Parts) (from count : ℕ) → lines_within p.header.version from (from + count) 0 (rows_in p.shards) ≡ listing p from count
 unfolding listing
-all_within p from count =
+all-within p from count =
     let several : from + count - from ≡ count = omega arith in
     let first : from - 0 ≡ from = omega arith in
     within-is p.header.version from (from + count) 0 (rows_in p.shards) (omega arith)

@@ -12,23 +12,23 @@ use Rattle.rv_spec.specs.Record.{Shard, Parts, head_bytes, row_bytes, shard_byte
 use Rattle.rv_spec.specs.Grammar.{ShardFits, ShardsFit, PartsFit}
 use Rattle.rv_rules.specs.Reading.{head_of}
 use Rattle.rv_file.specs.Parsing.{shard_size}
-use Rattle.rv_file.proofs.Lemmas.{IsShard, is_shard, first_head}
+use Rattle.rv_file.proofs.Lemmas.{IsShard, is-shard, first-head}
 
 abbrev pub rows_in : List Shard → List Row
 rows_in ss = flat_map (λ s. s.rows) ss
 
 -- no more rows than steps
-pub rows_most : (h : Header) (i : ℕ) (ss : List Shard) → ShardsFit h i ss → length (rows_in ss) ≤ h.steps - i * h.size
-rows_most h i [] fit = omega arith
-rows_most h i (s ∷ ss) fit =
-    omega (arith, length-append s.rows (rows_in ss), rows_most h (i + 1) ss fit.1, fit.0.count, fit.0.rows)
+pub rows-most : (h : Header) (i : ℕ) (ss : List Shard) → ShardsFit h i ss → length (rows_in ss) ≤ h.steps - i * h.size
+rows-most h i [] fit = omega arith
+rows-most h i (s ∷ ss) fit =
+    omega (arith, length-append s.rows (rows_in ss), rows-most h (i + 1) ss fit.1, fit.0.count, fit.0.rows)
 
 -- each shard but the last is full
-pub rows_exact : (h : Header) (i : ℕ) (ss : List Shard) (k : ℕ) → ShardsFit h i ss → k < length ss → (i + k) * h.size < h.steps → length (rows_in (take k ss)) ≡ k * h.size
-rows_exact h i ss zero fit lt more = omega arith
-rows_exact h i [] (suc k) fit lt more = absurd (omega arith)
-rows_exact h i (s ∷ ss) (suc k) fit lt more =
-    let others : length (rows_in (take k ss)) ≡ k * h.size = rows_exact h (i + 1) ss k fit.1 (omega arith) (omega arith) in
+pub rows-exact : (h : Header) (i : ℕ) (ss : List Shard) (k : ℕ) → ShardsFit h i ss → k < length ss → (i + k) * h.size < h.steps → length (rows_in (take k ss)) ≡ k * h.size
+rows-exact h i ss zero fit lt more = omega arith
+rows-exact h i [] (suc k) fit lt more = absurd (omega arith)
+rows-exact h i (s ∷ ss) (suc k) fit lt more =
+    let others : length (rows_in (take k ss)) ≡ k * h.size = rows-exact h (i + 1) ss k fit.1 (omega arith) (omega arith) in
     omega (arith, length-append s.rows (rows_in (take k ss)), others, fit.0.count, fit.0.rows)
 
 -- a shard at a place
@@ -37,13 +37,13 @@ pub record ShardAt (h : Header) (ss : List Shard) (i j : ℕ) (s : Shard) : Type
   pub front : take (j + 1) ss ≡ take j ss ++ s ∷ []
   pub behind : drop j ss ≡ s ∷ drop (j + 1) ss
 
-pub shard_at : (h : Header) (i : ℕ) (ss : List Shard) (j : ℕ) → j < length ss → ShardsFit h i ss → (s : Shard) × ShardAt h ss i j s
-shard_at h i [] j lt fit = absurd (omega arith)
-shard_at h i (s ∷ ss) zero lt fit =
+pub shard-at : (h : Header) (i : ℕ) (ss : List Shard) (j : ℕ) → j < length ss → ShardsFit h i ss → (s : Shard) × ShardAt h ss i j s
+shard-at h i [] j lt fit = absurd (omega arith)
+shard-at h i (s ∷ ss) zero lt fit =
     let same : i ≡ i + 0 = omega arith in
     (s, record { fits = subst (λ k. ShardFits h k s) same fit.0; front = refl; behind = refl })
-shard_at h i (s ∷ ss) (suc j) lt fit =
-    let more = shard_at h (i + 1) ss j (omega arith) fit.1 in
+shard-at h i (s ∷ ss) (suc j) lt fit =
+    let more = shard-at h (i + 1) ss j (omega arith) fit.1 in
     let same : i + 1 + j ≡ i + suc j = omega arith in
     let next : suc j + 1 ≡ suc (j + 1) = omega arith in (
       more.0,
@@ -85,9 +85,9 @@ abbrev pub digests : Shard → List ℕ
 digests s = set_digest_bytes s.reads ++ set_digest_bytes s.writes
 
 -- its rows lie behind its head
-pub rows_behind_head : (s : Shard) (tail : List ℕ) → drop 32 (shard_bytes s ++ tail) ≡ flat_map row_bytes s.rows ++ (digests s ++ tail)
+pub rows-behind-head : (s : Shard) (tail : List ℕ) → drop 32 (shard_bytes s ++ tail) ≡ flat_map row_bytes s.rows ++ (digests s ++ tail)
 unfolding shard_bytes
-rows_behind_head s tail =
+rows-behind-head s tail =
     let behind = flat_map row_bytes s.rows ++ (digests s ++ tail) in
     let is : shard_bytes s ++ tail ≡ head_bytes s.head ++ behind = simp append_assoc in
     ap (λ (l : List ℕ). drop 32 l) is ∙ drop_at (head_bytes s.head) behind 32 (length-head s.head)
@@ -104,16 +104,16 @@ pub record BeginsWith (p : Parts) (k : ℕ) (rest : List ℕ) (s : Shard) : Type
   pub room : shard_size rest ≤ length rest
   pub next : drop (shard_size rest) rest ≡ behind p k
 
-pub next_shard : (p : Parts) (k : ℕ) (rest : List ℕ) → PartsFit p → k < length p.shards → rest ≡ flat_map shard_bytes (drop k p.shards) ++ table_bytes p.table → (s : Shard) × BeginsWith p k rest s
-next_shard p k rest fit lt e =
-    let at = shard_at p.header 0 p.shards k lt fit.shards in
+pub next-shard : (p : Parts) (k : ℕ) (rest : List ℕ) → PartsFit p → k < length p.shards → rest ≡ flat_map shard_bytes (drop k p.shards) ++ table_bytes p.table → (s : Shard) × BeginsWith p k rest s
+next-shard p k rest fit lt e =
+    let at = shard-at p.header 0 p.shards k lt fit.shards in
     let s : Shard = at.0 in
     let number : 0 + k ≡ k = omega arith in
     let fits : ShardFits p.header k s = subst (λ n. ShardFits p.header n s) number at.1.fits in
-    let is : IsShard s = is_shard p.header k s fit.header.size.1 (omega (arith, fit.count, fit.header.shards_within)) fits in
+    let is : IsShard s = is-shard p.header k s fit.header.size.1 (omega (arith, fit.count, fit.header.shards_within)) fits in
     let begins : rest ≡ shard_bytes s ++ behind p k =
     e ∙ ap (λ ss. flat_map shard_bytes ss ++ table_bytes p.table) at.1.behind ∙ append_assoc (shard_bytes s) (flat_map shard_bytes (drop (k + 1) p.shards)) (table_bytes p.table) in
-    let head : head_of rest ≡ s.head = ap head_of begins ∙ first_head s (behind p k) is in
+    let head : head_of rest ≡ s.head = ap head_of begins ∙ first-head s (behind p k) is in
     let size : length (shard_bytes s) ≡ shard_size rest = is.size ∙ ap (λ (h : ShardHead). 288 + h.bytes) (sym head) in (
       s,
       record {

@@ -8,14 +8,14 @@ use Rattle.rv_spec.specs.Trace.{Row}
 use Rattle.rv_text.specs.Listing.{row_lines, lines_from}
 use Rattle.rv_text.specs.Within.{here, lines_within}
 
-pub here_in : (version from until step : ℕ) (r : Row) → from ≤ step → step < until → here version from until step r ≡ row_lines version step r
-here_in version from until step r le lt = grind (arith, nat_tests)
+pub here-in : (version from until step : ℕ) (r : Row) → from ≤ step → step < until → here version from until step r ≡ row_lines version step r
+here-in version from until step r le lt = grind (arith, nat_tests)
 
-pub here_before : (version from until step : ℕ) (r : Row) → step < from → here version from until step r ≡ []
-here_before version from until step r lt = grind (arith, nat_tests)
+pub here-before : (version from until step : ℕ) (r : Row) → step < from → here version from until step r ≡ []
+here-before version from until step r lt = grind (arith, nat_tests)
 
-pub here_after : (version from until step : ℕ) (r : Row) → until ≤ step → here version from until step r ≡ []
-here_after version from until step r le = grind (arith, nat_tests)
+pub here-after : (version from until step : ℕ) (r : Row) → until ≤ step → here version from until step r ≡ []
+here-after version from until step r le = grind (arith, nat_tests)
 
 pub within-append : (version from until step : ℕ) (xs ys : List Row)
     → lines_within version from until step (xs ++ ys) ≡ lines_within version from until step xs ++ lines_within version from until (step + length xs) ys
@@ -33,14 +33,14 @@ pub within-before : (version from until step : ℕ) (rs : List Row) → step + l
 unfolding lines_within
 within-before version from until step [] le = refl
 within-before version from until step (r ∷ rs) le =
-    ap (λ t. t ++ lines_within version from until (step + 1) rs) (here_before version from until step r (omega arith))
+    ap (λ t. t ++ lines_within version from until (step + 1) rs) (here-before version from until step r (omega arith))
     ∙ within-before version from until (step + 1) rs (omega arith)
 
 pub within-after : (version from until step : ℕ) (rs : List Row) → until ≤ step → lines_within version from until step rs ≡ []
 unfolding lines_within
 within-after version from until step [] le = refl
 within-after version from until step (r ∷ rs) le =
-    ap (λ t. t ++ lines_within version from until (step + 1) rs) (here_after version from until step r le)
+    ap (λ t. t ++ lines_within version from until (step + 1) rs) (here-after version from until step r le)
     ∙ within-after version from until (step + 1) rs (omega arith)
 
 -- the lines of one row more
@@ -50,18 +50,18 @@ within-one version from until step r = refl
 
 -- ---- by step, and by number
 
-from_here : (version from until step : ℕ) (rs : List Row) → from ≤ step → lines_within version from until step rs ≡ lines_from version step (take (until - step) rs)
+from-here : (version from until step : ℕ) (rs : List Row) → from ≤ step → lines_within version from until step rs ≡ lines_from version step (take (until - step) rs)
 unfolding lines_within lines_from
-from_here version from until step [] le = ap (λ rs. lines_from version step rs) (sym (take-nil (until - step)))
-from_here version from until step (r ∷ rs) le = ⊎_elim
+from-here version from until step [] le = ap (λ rs. lines_from version step rs) (sym (take-nil (until - step)))
+from-here version from until step (r ∷ rs) le = ⊎_elim
     (λ lt.
     let more : until - step ≡ suc (until - (step + 1)) = omega arith in
-    ap (λ t. t ++ lines_within version from until (step + 1) rs) (here_in version from until step r le lt)
-    ∙ ap (λ t. row_lines version step r ++ t) (from_here version from until (step + 1) rs (omega arith))
+    ap (λ t. t ++ lines_within version from until (step + 1) rs) (here-in version from until step r le lt)
+    ∙ ap (λ t. row_lines version step r ++ t) (from-here version from until (step + 1) rs (omega arith))
     ∙ ap (λ k. lines_from version step (take k (r ∷ rs))) (sym more))
     (λ over.
     let none : until - step ≡ 0 = omega arith in
-    ap (λ t. t ++ lines_within version from until (step + 1) rs) (here_after version from until step r over)
+    ap (λ t. t ++ lines_within version from until (step + 1) rs) (here-after version from until step r over)
     ∙ within-after version from until (step + 1) rs (omega arith)
     ∙ ap (λ k. lines_from version step (take k (r ∷ rs))) (sym none))
     (cases_lt step until)
@@ -74,13 +74,13 @@ within-is version from until step [] le =
 within-is version from until step (r ∷ rs) le = ⊎_elim
     (λ lt.
     let more : from - step ≡ suc (from - (step + 1)) = omega arith in
-    ap (λ t. t ++ lines_within version from until (step + 1) rs) (here_before version from until step r lt)
+    ap (λ t. t ++ lines_within version from until (step + 1) rs) (here-before version from until step r lt)
     ∙ within-is version from until (step + 1) rs (omega arith)
     ∙ ap (λ k. lines_from version from (take (until - from) (drop k (r ∷ rs)))) (sym more))
     (λ over.
     let same : from ≡ step = omega arith in
     let none : from - step ≡ 0 = omega arith in
-    from_here version from until step (r ∷ rs) (omega arith)
+    from-here version from until step (r ∷ rs) (omega arith)
     ∙ ap (λ k. lines_from version k (take (until - k) (r ∷ rs))) (sym same)
     ∙ ap (λ k. lines_from version from (take (until - from) (drop k (r ∷ rs)))) (sym none))
     (cases_lt step from)
@@ -94,11 +94,11 @@ pub record IsAt {A : Type 0} (P : A → Type 0) (xs : List A) (i : ℕ) (x : A) 
   pub count : length (take i xs) ≡ i
   pub holds : P x
 
-pub at_place : {A : Type 0} (P : A → Type 0) (xs : List A) (i : ℕ) → i < length xs → AllByRecursion P xs → (x : A) × (rest : List A) × IsAt P xs i x rest
-at_place P [] i lt all = absurd (omega arith)
-at_place P (x ∷ xs) zero lt all = (x, xs, record { from = refl; behind = refl; front = refl; count = refl; holds = all.0 })
-at_place P (x ∷ xs) (suc i) lt all =
-    let more = at_place P xs i (omega arith) all.1 in
+pub at-place : {A : Type 0} (P : A → Type 0) (xs : List A) (i : ℕ) → i < length xs → AllByRecursion P xs → (x : A) × (rest : List A) × IsAt P xs i x rest
+at-place P [] i lt all = absurd (omega arith)
+at-place P (x ∷ xs) zero lt all = (x, xs, record { from = refl; behind = refl; front = refl; count = refl; holds = all.0 })
+at-place P (x ∷ xs) (suc i) lt all =
+    let more = at-place P xs i (omega arith) all.1 in
     let next : suc i + 1 ≡ suc (i + 1) = omega arith in (
       more.0,
       more.1,

@@ -1,7 +1,7 @@
 -- Words as a list, from the pattern that they fit.
 use Rattle.std.proofs.Common.{◌≡◌, ◌≢◌, ◌⊎◌, inl, inr, ℕ, suc, ◌<◌, List, [], ◌∷◌, length, drop, get_or, refl, sym, ◌∙◌, ap, arith, Option, Some, None}
 use Rattle.std.proofs.Math.Seq.{drop-cons}
-use Rattle.rv_tool.specs.CommandLine.{make, make_of, make_words, number}
+use Rattle.rv_tool.specs.CommandLine.{make, make_command, make_words, number}
 
 -- the list from its element at j on
 from : {A : Type 0} (xs : List A) (j : ℕ) (a : A) → j < length xs → a ≡ get_or xs j a → drop j xs ≡ a ∷ drop (suc j) xs
@@ -21,36 +21,36 @@ six xs a b c d e f len ha hb hc hd he hf =
     (from xs 4 e (omega arith) he ∙ ap (λ r. e ∷ r)
     (from xs 5 f (omega arith) hf ∙ ap (λ r. f ∷ r) (ends xs 6 len))))))
 
-pub not_six : (v : ℕ) (xs : List (List ℕ)) → length xs ≢ 6 → make_of v xs ≡ None
-not_six v [] h = refl
-not_six v (a ∷ []) h = refl
-not_six v (a ∷ b ∷ []) h = refl
-not_six v (a ∷ b ∷ c ∷ []) h = refl
-not_six v (a ∷ b ∷ c ∷ d ∷ []) h = refl
-not_six v (a ∷ b ∷ c ∷ d ∷ e ∷ []) h = refl
-not_six v (a ∷ b ∷ c ∷ d ∷ e ∷ f ∷ []) h = absurd (h refl)
-not_six v (a ∷ b ∷ c ∷ d ∷ e ∷ f ∷ g ∷ gs) h = refl
+pub not-six : (v : ℕ) (xs : List (List ℕ)) → length xs ≢ 6 → make_command v xs ≡ None
+not-six v [] h = refl
+not-six v (a ∷ []) h = refl
+not-six v (a ∷ b ∷ []) h = refl
+not-six v (a ∷ b ∷ c ∷ []) h = refl
+not-six v (a ∷ b ∷ c ∷ d ∷ []) h = refl
+not-six v (a ∷ b ∷ c ∷ d ∷ e ∷ []) h = refl
+not-six v (a ∷ b ∷ c ∷ d ∷ e ∷ f ∷ []) h = absurd (h refl)
+not-six v (a ∷ b ∷ c ∷ d ∷ e ∷ f ∷ g ∷ gs) h = refl
 
 -- six words whose last three are numbers in their ranges, or one of which isn't
 pub spelled : (v : ℕ) (xs : List (List ℕ)) (elf input target w s b : List ℕ) (workers shard budget : ℕ) → xs ≡ elf ∷ input ∷ target ∷ w ∷ s ∷ b ∷ []
     → number 1 64 w ≡ Some workers → number 1 65536 s ≡ Some shard → number 1 8388608 b ≡ Some budget
-    → make_of v xs ≡ Some (make (record { version = v; elf = elf; input = input; target = target; workers = workers; shard = shard; budget = budget }))
-spelled v xs elf input target w s b workers shard budget list hw hs hb = ap (make_of v) list ∙ rw (hw, hs, hb) refl
+    → make_command v xs ≡ Some (make (record { version = v; elf = elf; input = input; target = target; workers = workers; shard = shard; budget = budget }))
+spelled v xs elf input target w s b workers shard budget list hw hs hb = ap (make_command v) list ∙ rw (hw, hs, hb) refl
 
-no_workers : (v : ℕ) (elf input target : List ℕ) (s b : Option ℕ) → make_words v elf input target None s b ≡ None
-no_workers v elf input target s b = refl
+no-workers : (v : ℕ) (elf input target : List ℕ) (s b : Option ℕ) → make_words v elf input target None s b ≡ None
+no-workers v elf input target s b = refl
 
-no_shard : (v : ℕ) (elf input target : List ℕ) (w b : Option ℕ) → make_words v elf input target w None b ≡ None
-no_shard v elf input target None b = refl
-no_shard v elf input target (Some w) b = refl
+no-shard : (v : ℕ) (elf input target : List ℕ) (w b : Option ℕ) → make_words v elf input target w None b ≡ None
+no-shard v elf input target None b = refl
+no-shard v elf input target (Some w) b = refl
 
-no_budget : (v : ℕ) (elf input target : List ℕ) (w s : Option ℕ) → make_words v elf input target w s None ≡ None
-no_budget v elf input target None s = refl
-no_budget v elf input target (Some w) None = refl
-no_budget v elf input target (Some w) (Some s) = refl
+no-budget : (v : ℕ) (elf input target : List ℕ) (w s : Option ℕ) → make_words v elf input target w s None ≡ None
+no-budget v elf input target None s = refl
+no-budget v elf input target (Some w) None = refl
+no-budget v elf input target (Some w) (Some s) = refl
 
 pub misspelled : (v : ℕ) (xs : List (List ℕ)) (elf input target w s b : List ℕ) → xs ≡ elf ∷ input ∷ target ∷ w ∷ s ∷ b ∷ []
-    → (number 1 64 w ≡ None) ⊎ ((number 1 65536 s ≡ None) ⊎ (number 1 8388608 b ≡ None)) → make_of v xs ≡ None
-misspelled v xs elf input target w s b list (inl h) = ap (make_of v) list ∙ rw h (no_workers v elf input target (number 1 65536 s) (number 1 8388608 b))
-misspelled v xs elf input target w s b list (inr (inl h)) = ap (make_of v) list ∙ rw h (no_shard v elf input target (number 1 64 w) (number 1 8388608 b))
-misspelled v xs elf input target w s b list (inr (inr h)) = ap (make_of v) list ∙ rw h (no_budget v elf input target (number 1 64 w) (number 1 65536 s))
+    → (number 1 64 w ≡ None) ⊎ ((number 1 65536 s ≡ None) ⊎ (number 1 8388608 b ≡ None)) → make_command v xs ≡ None
+misspelled v xs elf input target w s b list (inl h) = ap (make_command v) list ∙ rw h (no-workers v elf input target (number 1 65536 s) (number 1 8388608 b))
+misspelled v xs elf input target w s b list (inr (inl h)) = ap (make_command v) list ∙ rw h (no-shard v elf input target (number 1 64 w) (number 1 8388608 b))
+misspelled v xs elf input target w s b list (inr (inr h)) = ap (make_command v) list ∙ rw h (no-budget v elf input target (number 1 64 w) (number 1 65536 s))

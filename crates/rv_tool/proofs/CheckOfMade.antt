@@ -1,7 +1,7 @@
 -- The record that make made is accepted by check, over told files whose reading never fails.
-use Rattle.std.proofs.Common.{◌≡◌, ◌≢◌, ◌⊎◌, ◌<◌, inl, inr, ℕ, List, [], ◌∷◌, length, Option, Some, None, Bool, true, false, nat_lt, refl, sym, ap, subst, ◌∙◌, length-append, arith, option_map, if◌then◌else◌}
+use Rattle.std.proofs.Common.{◌≡◌, ◌≢◌, ◌⊎◌, ◌≤◌, inl, inr, ℕ, List, [], ◌∷◌, length, Option, Some, None, Bool, true, false, nat_lt, refl, sym, ap, subst, ◌∙◌, length-append, arith, option_map, if◌then◌else◌}
 use Rattle.std.specs.Int.{div_ceil}
-use Rattle.std.proofs.lemmas.Bool.{eqb-false, ltb-true}
+use Rattle.std.proofs.lemmas.Bool.{eqb-false, le-ltb}
 use Rattle.rv_base.specs.declared.limits.TheConstants.{ELF_LIMIT, INPUT_LIMIT, RECORD_LIMIT}
 use Rattle.rv_spec.specs.Elf.{first_fault}
 use Rattle.rv_spec.specs.Digest.{sha_lanes}
@@ -19,13 +19,13 @@ use Rattle.rv_plan.specs.Answers.Prints.{whole, torn}
 use Rattle.rv_plan.specs.declared.faults.Limited.TheVariants as limited
 use Rattle.rv_plan.specs.declared.faults.Fault.{Fault}
 use Rattle.rv_plan.specs.declared.faults.Fault.TheVariants.{Limit}
-use Rattle.rv_plan.proofs.Lemmas.{reaches_told}
-use Rattle.rv_tool.specs.CommandLine.{MakeWords, CheckWords, CommandWords, make, check, settle, run, explain, trial}
-use Rattle.rv_tool.specs.CheckOfMade.{Accepts, IsCheckOf}
+use Rattle.rv_plan.proofs.Lemmas.{reaches-told}
+use Rattle.rv_tool.specs.CommandLine.{MakeWords, CheckWords, CommandWords, make, check, settle, run, explain, trial, state, cell, split, join}
+use Rattle.rv_tool.specs.CheckOfMade.{IsCheckOf}
 use Rattle.rv_tool.specs.Headline.{Headline, Made}
 use Rattle.rv_tool.specs.Lines.{accepted_line}
 use Rattle.rv_tool.specs.Outcome.{check_plan, make_plan, plan, plan_of, read_record, tells, told_verdict}
-use Rattle.rv_tool.proofs.Unread.{none_fails}
+use Rattle.rv_tool.proofs.Unread.{none-fails}
 
 -- ---- a plan that reads a program, over told files
 
@@ -53,8 +53,8 @@ passes files elf input next is =
     let second = past files (nat_lt INPUT_LIMIT (length given)) (Limit limited.Input) judged (eqb-false 8 0 refl) first.1 in
     record { elf_fits = first.0; input_fits = second.0; faultless = unfaulty files (first_fault program) (next program given) second.1 }
 
-goes_on : (files : Files) (elf input : List ℕ) (next : List ℕ → List ℕ → Plan) → Passes (file files elf) (file files input) → outcome_over files (read_program elf input next) ≡ outcome_over files (next (file files elf) (file files input))
-goes_on files elf input next h =
+goes-on : (files : Files) (elf input : List ℕ) (next : List ℕ → List ℕ → Plan) → Passes (file files elf) (file files input) → outcome_over files (read_program elf input next) ≡ outcome_over files (next (file files elf) (file files input))
+goes-on files elf input next h =
     let program = file files elf in
     let given = file files input in
     ap (λ b. outcome_over files (if b then answer (refuses (Limit limited.Elf)) else read_within input INPUT_LIMIT limited.Input (λ bytes. unless_faulty (first_fault program) (next program bytes)))) h.elf_fits
@@ -63,22 +63,16 @@ goes_on files elf input next h =
 
 -- ---- the outcome of the check
 
--- an outcome is the verdict's, or a record that is held is above its limit
-abbrev IsDue : Bool → List ℕ → Outcome → Outcome → Type 0
-IsDue held record_of accepted o = (o ≡ accepted) ⊎ ((o ≡ refuses (Limit limited.Record)) × (held ≡ true) × (RECORD_LIMIT < length record_of))
-
-limited_or : (files : Files) (over : Bool) (bytes : List ℕ) (o : Outcome) → nat_lt RECORD_LIMIT (length bytes) ≡ over → IsDue true bytes o (outcome_over files (if over then answer (refuses (Limit limited.Record)) else answer o))
-limited_or files true bytes o is = inr (refl, refl, ltb-true RECORD_LIMIT (length bytes) is)
-limited_or files false bytes o is = inl refl
-
-record_due : (files : Files) (held : Bool) (name : List ℕ) (next : List ℕ → Outcome) → IsDue held (file files name) (next (file files name)) (outcome_over files (read_record held name (λ bytes. answer (next bytes))))
-record_due files false name next = inl refl
-record_due files true name next = limited_or files (nat_lt RECORD_LIMIT (length (file files name))) (file files name) (next (file files name)) refl
+-- a record within the limit is judged, also where it is held whole
+record-due : (files : Files) (held : Bool) (name : List ℕ) (next : List ℕ → Outcome) → length (file files name) ≤ RECORD_LIMIT → outcome_over files (read_record held name (λ bytes. answer (next bytes))) ≡ next (file files name)
+record-due files false name next short = refl
+record-due files true name next short =
+    ap (λ b. outcome_over files (if b then answer (refuses (Limit limited.Record)) else answer (next (file files name)))) (le-ltb RECORD_LIMIT (length (file files name)) short)
 
 -- ---- the files after make
 
-other_file : (files : Files) (name bytes other : List ℕ) → name ≢ other → file (with_file files name bytes) other ≡ file files other
-other_file files name bytes other apart = ap or_empty (found-with_file-other files name bytes other (λ same. apart (sym same)))
+other-file : (files : Files) (name bytes other : List ℕ) → name ≢ other → file (with_file files name bytes) other ≡ file files other
+other-file files name bytes other apart = ap or_empty (found-with_file-other files name bytes other (λ same. apart (sym same)))
 
 -- the record that was made, and the files with it
 record IsMade (w : MakeWords) (files made : Files) : Type 0 where
@@ -86,13 +80,14 @@ record IsMade (w : MakeWords) (files made : Files) : Type 0 where
   input_same : file made w.input ≡ file files w.input
   program_passes : Passes (file made w.elf) (file made w.input)
   accepted : (o : Outcome) × (told_verdict (verdict sha_lanes (file made w.elf) (file made w.input) (file made w.target)) ≡ o) × (o.status ≡ 0) × (o.writes ≡ [])
+  short : length (file made w.target) ≤ RECORD_LIMIT
 
-is_made : (w : MakeWords) (s s' : ShelfView) (files : Files) → s.files ≡ Some files → w.target ≢ w.elf → w.target ≢ w.input → (outcome_over files (plan_of (make w))).status ≡ 0 → Made s s' w → (made : Files) × (s'.files ≡ Some made) × IsMade w files made
-is_made w s s' files told apart_elf apart_input success h =
+is-made : (w : MakeWords) (s s' : ShelfView) (files : Files) → s.files ≡ Some files → w.target ≢ w.elf → w.target ≢ w.input → (outcome_over files (plan_of (make w))).status ≡ 0 → Made s s' w → (made : Files) × (s'.files ≡ Some made) × IsMade w files made
+is-made w s s' files told apart_elf apart_input success h =
     let bytes = record_file sha_lanes w.version h.elf h.input w.shard h.steps h.end in
     let made : Files = with_file files w.target bytes in
-    let elf_same : file made w.elf ≡ file files w.elf = other_file files w.target bytes w.elf apart_elf in
-    let input_same : file made w.input ≡ file files w.input = other_file files w.target bytes w.input apart_input in
+    let elf_same : file made w.elf ≡ file files w.elf = other-file files w.target bytes w.elf apart_elf in
+    let input_same : file made w.input ≡ file files w.input = other-file files w.target bytes w.input apart_input in
     let elf_is : h.elf ≡ file files w.elf = subst (λ fs. IsContents fs w.elf h.elf) told h.elf_is in
     let input_is : h.input ≡ file files w.input = subst (λ fs. IsContents fs w.input h.input) told h.input_is in (
       made,
@@ -110,86 +105,76 @@ is_made w s s' files told apart_elf apart_input success h =
           refl,
           refl,
         );
+        short = omega (arith, ap length (file-with_file files w.target bytes), h.short);
       },
     )
 
-check_due : (w : MakeWords) (c : CheckWords) (files made : Files) → c.elf ≡ w.elf → c.input ≡ w.input → c.file ≡ w.target → (h : IsMade w files made) → IsDue (nat_lt 1 c.workers) (file made c.file) h.accepted.0 (outcome_over made (plan_of (check c)))
-check_due w c files made elf input target h =
+check-due : (w : MakeWords) (c : CheckWords) (files made : Files) → c.elf ≡ w.elf → c.input ≡ w.input → c.file ≡ w.target → (h : IsMade w files made) → outcome_over made (plan_of (check c)) ≡ h.accepted.0
+check-due w c files made elf input target h =
     let elf_is : file made c.elf ≡ file made w.elf = ap (file made) elf in
     let input_is : file made c.input ≡ file made w.input = ap (file made) input in
+    let record_is : file made c.file ≡ file made w.target = ap (file made) target in
     let pass : Passes (file made c.elf) (file made c.input) = subst (λ program. Passes program (file made c.input)) (sym elf_is) (subst (Passes (file made w.elf)) (sym input_is) h.program_passes) in
-    subst (IsDue (nat_lt 1 c.workers) (file made c.file) h.accepted.0) (sym (goes_on made c.elf c.input (check_plan c) pass))
-    (subst (λ o. IsDue (nat_lt 1 c.workers) (file made c.file) o (outcome_over made (check_plan c (file made c.elf) (file made c.input))))
-    (ap (λ program. told_verdict (verdict sha_lanes program (file made c.input) (file made c.file))) elf_is
+    goes-on made c.elf c.input (check_plan c) pass
+    ∙ record-due made (nat_lt 1 c.workers) c.file (λ bytes. told_verdict (verdict sha_lanes (file made c.elf) (file made c.input) bytes)) (omega (arith, ap length record_is, h.short))
+    ∙ ap (λ program. told_verdict (verdict sha_lanes program (file made c.input) (file made c.file))) elf_is
     ∙ ap (λ given. told_verdict (verdict sha_lanes (file made w.elf) given (file made c.file))) input_is
-    ∙ ap (λ name. told_verdict (verdict sha_lanes (file made w.elf) (file made w.input) (file made name))) target
-    ∙ h.accepted.1)
-    (record_due made (nat_lt 1 c.workers) c.file (λ bytes. told_verdict (verdict sha_lanes (file made c.elf) (file made c.input) bytes))))
+    ∙ ap (λ bytes. told_verdict (verdict sha_lanes (file made w.elf) (file made w.input) bytes)) record_is
+    ∙ h.accepted.1
 
 -- ---- how the check ends
 
-none_due : (o : Outcome) (s s' : ShelfView) → o.writes ≡ [] → WriteFails o.writes s s' → ⊥
-none_due o s s' none h = absurd (omega (arith, ap length none, ap length h.order, length-append h.first ((h.name, h.bytes) ∷ h.last)))
+none-due : (o : Outcome) (s s' : ShelfView) → o.writes ≡ [] → WriteFails o.writes s s' → ⊥
+none-due o s s' none h = absurd (omega (arith, ap length none, ap length h.order, length-append h.first ((h.name, h.bytes) ∷ h.last)))
 
-ended_due : (p : Plan) (s s' : ShelfView) (files : Files) (status : ℕ) (text : List ℕ) → s.files ≡ Some files → ((name : List ℕ) → Rose (s.read_faults name) (s'.read_faults name) → ⊥) → (outcome_over files p).writes ≡ [] → Ends p s s' status text
+ended-due : (p : Plan) (s s' : ShelfView) (files : Files) (status : ℕ) (text : List ℕ) → s.files ≡ Some files → ((name : List ℕ) → Rose (s.read_faults name) (s'.read_faults name) → ⊥) → (outcome_over files p).writes ≡ [] → Ends p s s' status text
     → (status ≡ (outcome_over files p).status) ⊎ (status ≡ 7)
-ended_due p s s' files status text told calm none (done o reached is _ _) = inl (is ∙ ap (λ x. x.status) (reaches_told files p o (subst (λ fs. Reaches fs p o) told reached)))
-ended_due p s s' files status text told calm none (unread _ _ fails _) = absurd (none_fails s s' calm p fails)
-ended_due p s s' files status text told calm none (unwritten o reached _ _ fails) =
-    absurd (none_due o s s' (ap (λ x. x.writes) (reaches_told files p o (subst (λ fs. Reaches fs p o) told reached)) ∙ none) fails)
-ended_due p s s' files status text told calm none (no_memory _ is _ _) = inr is
+ended-due p s s' files status text told calm none (done o reached is _ _) = inl (is ∙ ap (λ x. x.status) (reaches-told files p o (subst (λ fs. Reaches fs p o) told reached)))
+ended-due p s s' files status text told calm none (unread _ _ fails _) = absurd (none-fails s s' calm p fails)
+ended-due p s s' files status text told calm none (unwritten o reached _ _ fails) =
+    absurd (none-due o s s' (ap (λ x. x.writes) (reaches-told files p o (subst (λ fs. Reaches fs p o) told reached)) ∙ none) fails)
+ended-due p s s' files status text told calm none (no_memory _ is _ _) = inr is
 
-printed_whole : (t t' : SinkView) (status : ℕ) (text : List ℕ) (result : ℕ) → (Rose t.faults t'.faults → ⊥) → Prints t t' status text result → result ≡ status
-printed_whole t t' status text result silent (whole is _) = is
-printed_whole t t' status text result silent (torn _ rose _) = absurd (silent rose)
-
--- what is due, by the status
-due_writes : (held : Bool) (bytes : List ℕ) (accepted o : Outcome) → accepted.writes ≡ [] → IsDue held bytes accepted o → o.writes ≡ []
-due_writes held bytes accepted o none (inl is) = ap (λ x. x.writes) is ∙ none
-due_writes held bytes accepted o none (inr h) = ap (λ x. x.writes) h.0
-
-due_answer : (c : CheckWords) (bytes : List ℕ) (accepted o : Outcome) (status result : ℕ) → accepted.status ≡ 0 → IsDue (nat_lt 1 c.workers) bytes accepted o → (status ≡ o.status) ⊎ (status ≡ 7) → result ≡ status
-    → (result ≡ 0) ⊎ (result ≡ 7) ⊎ ((result ≡ 8) × (1 < c.workers) × (RECORD_LIMIT < length bytes))
-due_answer c bytes accepted o status result zero due (inr memory) is = inr (inl (is ∙ memory))
-due_answer c bytes accepted o status result zero (inl due) (inl same) is = inl (is ∙ same ∙ ap (λ x. x.status) due ∙ zero)
-due_answer c bytes accepted o status result zero (inr h) (inl same) is = inr (inr (is ∙ same ∙ ap (λ x. x.status) h.0, ltb-true 1 c.workers h.1, h.2))
+printed-whole : (t t' : SinkView) (status : ℕ) (text : List ℕ) (result : ℕ) → (Rose t.faults t'.faults → ⊥) → Prints t t' status text result → result ≡ status
+printed-whole t t' status text result silent (whole is _) = is
+printed-whole t t' status text result silent (torn _ rose _) = absurd (silent rose)
 
 -- ---- both commands
 
-abbrev files_of : Files → Option Files → Files
-files_of none None = none
-files_of none (Some files) = files
-
-both : (w : MakeWords) (c : CheckWords) (s s' s'' : ShelfView) (t t' u u' : SinkView) (files after : Files) (n : ℕ) → IsCheckOf (Some (check c)) (Some (make w)) → s.files ≡ Some files → s''.files ≡ Some after → ((name : List ℕ) → Rose (s'.read_faults name) (s''.read_faults name) → ⊥)
-    → (Rose u.faults u'.faults → ⊥) → Answers (plan (Some (make w))) s s' t t' 0 → Made s s' w → Answers (plan (Some (check c))) s' s'' u u' n → Accepts (Some (check c)) after n
-both w c s s' s'' t t' u u' files after n asked told told' calm silent answers h answers' =
+both : (w : MakeWords) (c : CheckWords) (s s' s'' : ShelfView) (t t' u u' : SinkView) (files : Files) (n : ℕ) → IsCheckOf (Some (check c)) (Some (make w)) → s.files ≡ Some files → ((name : List ℕ) → Rose (s'.read_faults name) (s''.read_faults name) → ⊥)
+    → (Rose u.faults u'.faults → ⊥) → Answers (plan (Some (make w))) s s' t t' 0 → Made s s' w → Answers (plan (Some (check c))) s' s'' u u' n → (n ≡ 0) ⊎ (n ≡ 7)
+both w c s s' s'' t t' u u' files n asked told calm silent answers h answers' =
     let success = answers.told files told (eqb-false 0 5 refl) (eqb-false 0 6 refl) (eqb-false 0 7 refl) in
-    let made = is_made w s s' files told asked.3 asked.4 (sym success.status) h in
-    let due = check_due w c files made.0 asked.0 asked.1 asked.2 made.2 in
-    let none = due_writes (nat_lt 1 c.workers) (file made.0 c.file) made.2.accepted.0 (outcome_over made.0 (plan_of (check c))) made.2.accepted.3 due in
-    let ended = ended_due (plan_of (check c)) s' s'' made.0 answers'.status answers'.text made.1 calm none answers'.ended in
-    kept (due_answer c (file made.0 c.file) made.2.accepted.0 (outcome_over made.0 (plan_of (check c))) answers'.status n made.2.accepted.2 due ended (printed_whole u u' answers'.status answers'.text n silent answers'.printed)) made.1
-  where
-    kept : {made : Files} → (n ≡ 0) ⊎ (n ≡ 7) ⊎ ((n ≡ 8) × (1 < c.workers) × (RECORD_LIMIT < length (file made c.file))) → s'.files ≡ Some made → Accepts (Some (check c)) after n
-    kept {made} (inl is) was = inl is
-    kept {made} (inr (inl is)) was = inr (inl is)
-    kept {made} (inr (inr h)) was =
-        let same = ap (files_of after) (sym told' ∙ answers'.kept (λ z. absurd (eqb-false 8 0 refl (sym h.0 ∙ z))) (λ z. absurd (eqb-false 8 6 refl (sym h.0 ∙ z))) ∙ was) in
-        inr (inr (h.0, h.1, subst (λ fs. RECORD_LIMIT < length (file fs c.file)) (sym same) h.2))
+    let made = is-made w s s' files told asked.3 asked.4 (sym success.status) h in
+    let due = check-due w c files made.0 asked.0 asked.1 asked.2 made.2 in
+    let none : (outcome_over made.0 (plan_of (check c))).writes ≡ [] = ap (λ x. x.writes) due ∙ made.2.accepted.3 in
+    let printed : n ≡ answers'.status = printed-whole u u' answers'.status answers'.text n silent answers'.printed in
+    elim (ended-due (plan_of (check c)) s' s'' made.0 answers'.status answers'.text made.1 calm none answers'.ended) [
+      | inl same ↦ inl (printed ∙ same ∙ ap (λ x. x.status) due ∙ made.2.accepted.2)
+      | inr memory ↦ inr (printed ∙ memory)
+    ]
 
-pub check_of_made : (made checked : Option CommandWords) (s s' s'' : ShelfView) (t t' u u' : SinkView) (files after : Files) (m n : ℕ) → IsCheckOf checked made → s.files ≡ Some files → s''.files ≡ Some after → ((name : List ℕ) → Rose (s'.read_faults name) (s''.read_faults name) → ⊥)
-    → (Rose u.faults u'.faults → ⊥) → Answers (plan made) s s' t t' m → (m ≡ 0 → Headline made s s') → Answers (plan checked) s' s'' u u' n → m ≡ 0 → Accepts checked after n
-check_of_made made None s s' s'' t t' u u' files after m n asked = absurd asked
-check_of_made made (Some (make c)) s s' s'' t t' u u' files after m n asked = absurd asked
-check_of_made made (Some (settle c)) s s' s'' t t' u u' files after m n asked = absurd asked
-check_of_made made (Some (run c)) s s' s'' t t' u u' files after m n asked = absurd asked
-check_of_made made (Some (explain c)) s s' s'' t t' u u' files after m n asked = absurd asked
-check_of_made made (Some (trial c)) s s' s'' t t' u u' files after m n asked = absurd asked
-check_of_made None (Some (check c)) s s' s'' t t' u u' files after m n asked = absurd asked
-check_of_made (Some (check w)) (Some (check c)) s s' s'' t t' u u' files after m n asked = absurd asked
-check_of_made (Some (settle w)) (Some (check c)) s s' s'' t t' u u' files after m n asked = absurd asked
-check_of_made (Some (run w)) (Some (check c)) s s' s'' t t' u u' files after m n asked = absurd asked
-check_of_made (Some (explain w)) (Some (check c)) s s' s'' t t' u u' files after m n asked = absurd asked
-check_of_made (Some (trial w)) (Some (check c)) s s' s'' t t' u u' files after m n asked = absurd asked
-check_of_made (Some (make w)) (Some (check c)) s s' s'' t t' u u' files after m n asked = λ told told' calm silent answers headline answers' zero.
-    both w c s s' s'' t t' u u' files after n asked told told' calm silent (subst (Answers (plan (Some (make w))) s s' t t') zero answers) (headline zero) answers'
+pub check-of-made : (made checked : Option CommandWords) (s s' s'' : ShelfView) (t t' u u' : SinkView) (files : Files) (m n : ℕ) → IsCheckOf checked made → s.files ≡ Some files → ((name : List ℕ) → Rose (s'.read_faults name) (s''.read_faults name) → ⊥)
+    → (Rose u.faults u'.faults → ⊥) → Answers (plan made) s s' t t' m → (m ≡ 0 → Headline made s s') → Answers (plan checked) s' s'' u u' n → m ≡ 0 → (n ≡ 0) ⊎ (n ≡ 7)
+check-of-made made None s s' s'' t t' u u' files m n asked = absurd asked
+check-of-made made (Some (make c)) s s' s'' t t' u u' files m n asked = absurd asked
+check-of-made made (Some (settle c)) s s' s'' t t' u u' files m n asked = absurd asked
+check-of-made made (Some (run c)) s s' s'' t t' u u' files m n asked = absurd asked
+check-of-made made (Some (explain c)) s s' s'' t t' u u' files m n asked = absurd asked
+check-of-made made (Some (trial c)) s s' s'' t t' u u' files m n asked = absurd asked
+check-of-made made (Some (state c)) s s' s'' t t' u u' files m n asked = absurd asked
+check-of-made made (Some (cell c)) s s' s'' t t' u u' files m n asked = absurd asked
+check-of-made made (Some (join c)) s s' s'' t t' u u' files m n asked = absurd asked
+check-of-made made (Some (split c)) s s' s'' t t' u u' files m n asked = absurd asked
+check-of-made None (Some (check c)) s s' s'' t t' u u' files m n asked = absurd asked
+check-of-made (Some (check w)) (Some (check c)) s s' s'' t t' u u' files m n asked = absurd asked
+check-of-made (Some (settle w)) (Some (check c)) s s' s'' t t' u u' files m n asked = absurd asked
+check-of-made (Some (run w)) (Some (check c)) s s' s'' t t' u u' files m n asked = absurd asked
+check-of-made (Some (explain w)) (Some (check c)) s s' s'' t t' u u' files m n asked = absurd asked
+check-of-made (Some (trial w)) (Some (check c)) s s' s'' t t' u u' files m n asked = absurd asked
+check-of-made (Some (state w)) (Some (check c)) s s' s'' t t' u u' files m n asked = absurd asked
+check-of-made (Some (cell w)) (Some (check c)) s s' s'' t t' u u' files m n asked = absurd asked
+check-of-made (Some (join w)) (Some (check c)) s s' s'' t t' u u' files m n asked = absurd asked
+check-of-made (Some (split w)) (Some (check c)) s s' s'' t t' u u' files m n asked = absurd asked
+check-of-made (Some (make w)) (Some (check c)) s s' s'' t t' u u' files m n asked = λ told calm silent answers headline answers' zero.
+    both w c s s' s'' t t' u u' files n asked told calm silent (subst (Answers (plan (Some (make w))) s s' t t') zero answers) (headline zero) answers'

@@ -4,7 +4,7 @@ use Rattle.std.specs.List.{list_all}
 use Rattle.std.proofs.lemmas.Bool.{cases_order, false≢true, eqb-true, eq-eqb, lt-ltb, ltb-true}
 use Rattle.rv_base.specs.declared.record.Tuple.{Tuple}
 use Rattle.rv_rules.specs.Membership.{In}
-use Rattle.rv_rules.proofs.Lemmas.{count-in, in-left, in-right, left_true, right_true, both_true}
+use Rattle.rv_rules.proofs.Lemmas.{count-in, in-left, in-right, left-true, right-true, both-true}
 use Rattle.rv_spec.specs.Multiset.{Same, count}
 use Rattle.rv_order.specs.Order.{IsBefore, IsLeastDiffering}
 use Rattle.rv_tool.specs.Differing.{differing, is_before, least_differing}
@@ -37,12 +37,12 @@ filter-none p (t ∷ ts) h = ap (λ b. cond b (t ∷ filter p ts) (filter p ts))
 
 all-passes : (p : Tuple → Bool) (t : Tuple) (ts : List Tuple) → list_all p ts ≡ true → In t ts → p t ≡ true
 all-passes p t [] h there = absurd there
-all-passes p t (u ∷ us) h (inl is) = ap p is ∙ left_true (p u) (list_all p us) h
-all-passes p t (u ∷ us) h (inr rest) = all-passes p t us (right_true (p u) (list_all p us) h) rest
+all-passes p t (u ∷ us) h (inl is) = ap p is ∙ left-true (p u) (list_all p us) h
+all-passes p t (u ∷ us) h (inr rest) = all-passes p t us (right-true (p u) (list_all p us) h) rest
 
 passes-all : (p : Tuple → Bool) (ts : List Tuple) → ((t : Tuple) → In t ts → p t ≡ true) → list_all p ts ≡ true
 passes-all p [] h = refl
-passes-all p (t ∷ ts) h = both_true (p t) (list_all p ts) (h t (inl refl)) (passes-all p ts (λ u in-ts. h u (inr in-ts)))
+passes-all p (t ∷ ts) h = both-true (p t) (list_all p ts) (h t (inl refl)) (passes-all p ts (λ u in-ts. h u (inr in-ts)))
 
 -- the one that passes is found
 finds : (p : Tuple → Bool) (t : Tuple) (ts : List Tuple) → In t ts → p t ≡ true → ((u : Tuple) → In u ts → p u ≡ true → u ≡ t) → find p ts ≡ Some t
@@ -58,26 +58,26 @@ finds p t (u ∷ us) there h only = go (p u) refl there (λ rest. finds p t us r
 
 before-is : (t u : Tuple) → IsBefore t u → is_before t u ≡ true
 before-is t u (inl h) = ap (λ b. b || t.cell == u.cell && (nat_lt t.value u.value || t.value == u.value && nat_lt t.time u.time)) (lt-ltb t.cell u.cell h)
-before-is t u (inr h) = or_right (nat_lt t.cell u.cell) _ (both_true (t.cell == u.cell) _ (eq-eqb t.cell u.cell h.0) (rest h.1))
+before-is t u (inr h) = or-right (nat_lt t.cell u.cell) _ (both-true (t.cell == u.cell) _ (eq-eqb t.cell u.cell h.0) (rest h.1))
   where
-    or_right : (a b : Bool) → b ≡ true → (a || b) ≡ true
-    or_right true b e = refl
-    or_right false b e = e
+    or-right : (a b : Bool) → b ≡ true → (a || b) ≡ true
+    or-right true b e = refl
+    or-right false b e = e
 
     rest : ((t.value < u.value) ⊎ ((t.value ≡ u.value) × (t.time < u.time))) → (nat_lt t.value u.value || t.value == u.value && nat_lt t.time u.time) ≡ true
     rest (inl k) = ap (λ b. b || t.value == u.value && nat_lt t.time u.time) (lt-ltb t.value u.value k)
-    rest (inr k) = or_right (nat_lt t.value u.value) _ (both_true (t.value == u.value) (nat_lt t.time u.time) (eq-eqb t.value u.value k.0) (lt-ltb t.time u.time k.1))
+    rest (inr k) = or-right (nat_lt t.value u.value) _ (both-true (t.value == u.value) (nat_lt t.time u.time) (eq-eqb t.value u.value k.0) (lt-ltb t.time u.time k.1))
 
 is-before : (t u : Tuple) → is_before t u ≡ true → IsBefore t u
 is-before t u h = go (nat_lt t.cell u.cell) refl h
   where
     third : (b : Bool) → nat_lt t.value u.value ≡ b → (b || t.value == u.value && nat_lt t.time u.time) ≡ true → (t.value < u.value) ⊎ ((t.value ≡ u.value) × (t.time < u.time))
     third true e k = inl (ltb-true t.value u.value e)
-    third false e k = inr (eqb-true t.value u.value (left_true (t.value == u.value) (nat_lt t.time u.time) k), ltb-true t.time u.time (right_true (t.value == u.value) (nat_lt t.time u.time) k))
+    third false e k = inr (eqb-true t.value u.value (left-true (t.value == u.value) (nat_lt t.time u.time) k), ltb-true t.time u.time (right-true (t.value == u.value) (nat_lt t.time u.time) k))
 
     go : (b : Bool) → nat_lt t.cell u.cell ≡ b → (b || t.cell == u.cell && (nat_lt t.value u.value || t.value == u.value && nat_lt t.time u.time)) ≡ true → IsBefore t u
     go true e k = inl (ltb-true t.cell u.cell e)
-    go false e k = inr (eqb-true t.cell u.cell (left_true (t.cell == u.cell) (nat_lt t.value u.value || t.value == u.value && nat_lt t.time u.time) k), third (nat_lt t.value u.value) refl (right_true (t.cell == u.cell) (nat_lt t.value u.value || t.value == u.value && nat_lt t.time u.time) k))
+    go false e k = inr (eqb-true t.cell u.cell (left-true (t.cell == u.cell) (nat_lt t.value u.value || t.value == u.value && nat_lt t.time u.time) k), third (nat_lt t.value u.value) refl (right-true (t.cell == u.cell) (nat_lt t.value u.value || t.value == u.value && nat_lt t.time u.time) k))
 
 not-before : (t u : Tuple) → (IsBefore t u → ⊥) → not (is_before t u) ≡ true
 not-before t u h = go (is_before t u) refl
@@ -89,8 +89,8 @@ not-before t u h = go (is_before t u) refl
 before-not : (t u : Tuple) → not (is_before t u) ≡ true → IsBefore t u → ⊥
 before-not t u h is = false≢true (ap not (sym (before-is t u is)) ∙ h)
 
-equal_or_before : (t u : Tuple) → (t ≡ u) ⊎ (IsBefore t u ⊎ IsBefore u t)
-equal_or_before t u = elim (cases_order t.cell u.cell) [
+equal-or-before : (t u : Tuple) → (t ≡ u) ⊎ (IsBefore t u ⊎ IsBefore u t)
+equal-or-before t u = elim (cases_order t.cell u.cell) [
   | inl c ↦ elim (cases_order t.value u.value) [
     | inl v ↦ elim (cases_order t.time u.time) [
       | inl w ↦ inl (λ i. record { cell = c i; value = v i; time = w i })
@@ -142,7 +142,7 @@ least-is xs ys t h =
     least u there = not-before u t (λ before. differs-in u there (h.least u before))
 
     only : (u : Tuple) → In u (differing xs ys) → list_all (λ v. not (is_before v u)) (differing xs ys) ≡ true → u ≡ t
-    only u there passes = elim (equal_or_before u t) [
+    only u there passes = elim (equal-or-before u t) [
       | inl same ↦ same
       | inr (inl before) ↦ absurd (differs-in u there (h.least u before))
       | inr (inr after) ↦ absurd (before-not t u (all-passes (λ v. not (is_before v u)) t (differing xs ys) passes here) after)

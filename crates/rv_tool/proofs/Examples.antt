@@ -23,9 +23,9 @@ made : outcome (make_within (codes "3")) (shelf elf)
 unfolding computes elf_file outcome ends_within
 made = refl
 
-over_budget : outcome (make_within (codes "2")) (shelf elf) ≡ refuses (Budget 2)
+over-budget : outcome (make_within (codes "2")) (shelf elf) ≡ refuses (Budget 2)
 unfolding computes elf_file outcome ends_within
-over_budget = refl
+over-budget = refl
 
 misspelled : outcome (make_within (codes "03")) (shelf elf) ≡ refuses Words
 unfolding outcome

@@ -10,24 +10,24 @@ use Rattle.rv_plan.specs.FileCalls.{IsUnchanged, Performs, PerformsBehind, Reads
 use Rattle.rv_plan.specs.declared.faults.Fault.{Fault}
 use Rattle.rv_plan.specs.declared.faults.Limited.TheVariants as limited
 use Rattle.rv_plan.specs.declared.told.Told.{Told}
-use Rattle.rv_plan.proofs.Lemmas.{performs_read, read_stops}
+use Rattle.rv_plan.proofs.Lemmas.{performs-read, read-stops}
 use Rattle.rv_tool.specs.CommandLine.{ExplainWords, explain}
 use Rattle.rv_tool.specs.Judging.{TellsOutcome}
 use Rattle.rv_tool.specs.Outcome.{explained, plan_of}
-use Rattle.rv_tool.proofs.Checking.{told_behind, written_nothing}
+use Rattle.rv_tool.proofs.Checking.{told-behind, written-nothing}
 
-pub explain_unread : (w : ExplainWords) (s s' : ShelfView) (f : Fault) → ReadsWithin w.file RECORD_LIMIT limited.Record s s' (Err f) → Stops (plan_of (explain w)) s s' f
-explain_unread w s s' f read = read_stops w.file RECORD_LIMIT limited.Record s s' f (λ bytes. answer (explained w.from w.count (parse bytes))) read
+pub explain-unread : (w : ExplainWords) (s s' : ShelfView) (f : Fault) → ReadsWithin w.file RECORD_LIMIT limited.Record s s' (Err f) → Stops (plan_of (explain w)) s s' f
+explain-unread w s s' f read = read-stops w.file RECORD_LIMIT limited.Record s s' f (λ bytes. answer (explained w.from w.count (parse bytes))) read
 
-explained_writes : (from count : ℕ) (r : Result Parts Refusal) → (explained from count r).writes ≡ []
-explained_writes from count (Err r) = refl
-explained_writes from count (Ok p) = refl
+explained-writes : (from count : ℕ) (r : Result Parts Refusal) → (explained from count r).writes ≡ []
+explained-writes from count (Err r) = refl
+explained-writes from count (Ok p) = refl
 
-pub explain_read : (w : ExplainWords) (s s' : ShelfView) (file bytes : List ℕ) (r : Result Told Fault) → ReadsWithin w.file RECORD_LIMIT limited.Record s s' (Ok file) → bytes ≡ file → TellsOutcome (explained w.from w.count (parse bytes)) r
+pub explain-read : (w : ExplainWords) (s s' : ShelfView) (file bytes : List ℕ) (r : Result Told Fault) → ReadsWithin w.file RECORD_LIMIT limited.Record s s' (Ok file) → bytes ≡ file → TellsOutcome (explained w.from w.count (parse bytes)) r
     → Performs (plan_of (explain w)) s s' r
-explain_read w s s' file bytes r read same says =
-    performs_read w.file RECORD_LIMIT limited.Record s s' s' file (λ contents. answer (explained w.from w.count (parse contents))) r read
-    (told_behind (answer o) s' s' o r still (explained_writes w.from w.count (parse file)) told_is done)
+explain-read w s s' file bytes r read same says =
+    performs-read w.file RECORD_LIMIT limited.Record s s' s' file (λ contents. answer (explained w.from w.count (parse contents))) r read
+    (told-behind (answer o) s' s' o r still (explained-writes w.from w.count (parse file)) told-is done)
   where
     o : Outcome
     o = explained w.from w.count (parse file)
@@ -35,10 +35,10 @@ explain_read w s s' file bytes r read same says =
     still : IsUnchanged s' s'
     still = record { files = refl; reads = λ _. refl; writes = λ _. refl }
 
-    told_is : TellsOutcome o r
-    told_is = subst (λ b. TellsOutcome (explained w.from w.count (parse b)) r) same says
+    told-is : TellsOutcome o r
+    told-is = subst (λ b. TellsOutcome (explained w.from w.count (parse b)) r) same says
 
     done : (told : Told) → r ≡ Ok told → PerformsBehind (answer o) s' s' (Ok told)
     done told it =
-        let said : TellsOutcome o (Ok told) = subst (TellsOutcome o) it told_is in
-        (o, refl, said.0, said.1, written_nothing s' s' o still (explained_writes w.from w.count (parse file)))
+        let said : TellsOutcome o (Ok told) = subst (TellsOutcome o) it told-is in
+        (o, refl, said.0, said.1, written-nothing s' s' o still (explained-writes w.from w.count (parse file)))

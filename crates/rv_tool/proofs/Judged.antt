@@ -14,7 +14,7 @@ use Rattle.rv_host.specs.Files.{Files, file}
 use Rattle.rv_host.specs.Transfers.{Reads}
 use Rattle.rv_host.specs.Views.{ShelfView}
 use Rattle.rv_plan.specs.Endings.{IsContents}
-use Rattle.rv_plan.proofs.Lemmas.{front_whole}
+use Rattle.rv_plan.proofs.Lemmas.{front-whole}
 use Rattle.rv_judge.specs.Conclusions.{IsSound, VerdictsAreSound}
 use Rattle.rv_judge.specs.Held.{Held, comes}
 use Rattle.rv_tool.specs.Judging.{AreFirst, IsFed}
@@ -23,9 +23,9 @@ use Rattle.rv_tool.specs.Judging.{AreFirst, IsFed}
 abbrev pub Concludes : Option Files → List ℕ → List ℕ → List ℕ → Verdict → Type 0
 Concludes files name elf input answer = (contents : List ℕ) × IsContents files name contents × (answer ≡ verdict sha_lanes elf input contents) × IsSound sha_lanes elf input contents answer
 
-pub some_of : {A : Type 0} (o : Option A) (P : A → Type 0) → is_some o ≡ true → IfSome o P → (x : A) × P x
-some_of None P e h = absurd (false≢true e)
-some_of (Some x) P e h = (x, h)
+pub some-of : {A : Type 0} (o : Option A) (P : A → Type 0) → is_some o ≡ true → IfSome o P → (x : A) × P x
+some-of None P e h = absurd (false≢true e)
+some-of (Some x) P e h = (x, h)
 
 -- nothing is fed yet
 pub begun : (before : ShelfView) (name elf input front : List ℕ) (judge : Result Held Refusal) → AreFirst before name front → ((rest : List ℕ) → comes sha_lanes judge rest ≡ verdict sha_lanes elf input (front ++ rest))
@@ -38,9 +38,9 @@ begun before name elf input front judge first is = record {
 }
 
 -- one more piece is fed
-pub fed_more : (before : ShelfView) (name elf input front : List ℕ) (at next : ℕ) (old new : Result Held Refusal) (fed piece : List ℕ) → IsFed before name elf input front at old fed → AreBytes piece → next ≡ at + length piece
+pub fed-more : (before : ShelfView) (name elf input front : List ℕ) (at next : ℕ) (old new : Result Held Refusal) (fed piece : List ℕ) → IsFed before name elf input front at old fed → AreBytes piece → next ≡ at + length piece
     → ((rest : List ℕ) → comes sha_lanes new rest ≡ comes sha_lanes old (piece ++ rest)) → AreFirst before name ((front ++ fed) ++ piece) → IsFed before name elf input front next new (fed ++ piece)
-fed_more before name elf input front at next old new fed piece h bytes place goes first =
+fed-more before name elf input front at next old new fed piece h bytes place goes first =
     let joined : (front ++ fed) ++ piece ≡ front ++ (fed ++ piece) = append_assoc front fed piece in
     record {
       bytes = append-bytes fed piece h.bytes bytes;
@@ -50,12 +50,12 @@ fed_more before name elf input front at next old new fed piece h bytes place goe
     }
 
 -- no bytes are left, so the contents are what was read
-pub all_read : (files before : Option Files) (name bytes piece old : List ℕ) (at count : ℕ) → files ≡ before → at ≡ length bytes → count ≡ 0 → length old ≢ 0
+pub all-read : (files before : Option Files) (name bytes piece old : List ℕ) (at count : ℕ) → files ≡ before → at ≡ length bytes → count ≡ 0 → length old ≢ 0
     → ((told : Files) → before ≡ Some told → bytes ≡ take (length bytes) (file told name)) → IfSome files (λ told. Reads (file told name) at count old piece) → IsContents before name bytes
-all_read files None name bytes piece old at count same place none room first read = tt
-all_read files (Some told) name bytes piece old at count same place none room first read =
+all-read files None name bytes piece old at count same place none room first read = tt
+all-read files (Some told) name bytes piece old at count same place none room first read =
     let limit : ℕ = length bytes + length (file told name) in
-    front_whole files (Some told) name bytes piece old at count limit same place none room (omega arith) read told refl (first told refl) ∙ take_all limit (file told name) (omega arith)
+    front-whole files (Some told) name bytes piece old at count limit same place none room (omega arith) read told refl (first told refl) ∙ take_all limit (file told name) (omega arith)
 
 pub concluded : (before : ShelfView) (name elf input front : List ℕ) (at : ℕ) (judge : Result Held Refusal) (fed : List ℕ) (answer : Verdict) → IsFed before name elf input front at judge fed → VerdictsAreSound → first_fault elf ≡ None → AreBytes elf → AreBytes input → AreBytes front
     → answer ≡ comes sha_lanes judge [] → IsContents before.files name (front ++ fed) → Concludes before.files name elf input answer
@@ -84,8 +84,8 @@ decided before name elf input front at judge fed answer r h stays is = go before
         (file told name, refl, so (drop (length (front ++ fed)) (file told name)) ∙ ap (verdict sha_lanes elf input) whole, sound (file told name))
 
 -- all of a file that ends before its front does
-pub contents_of : (before : ShelfView) (name bytes : List ℕ) → ((told : Files) → before.files ≡ Some told → bytes ≡ file told name) → IsContents before.files name bytes
-contents_of before name bytes is = go before.files is
+pub contents-of : (before : ShelfView) (name bytes : List ℕ) → ((told : Files) → before.files ≡ Some told → bytes ≡ file told name) → IsContents before.files name bytes
+contents-of before name bytes is = go before.files is
   where
     go : (o : Option Files) → ((told : Files) → o ≡ Some told → bytes ≡ file told name) → IsContents o name bytes
     go None h = tt

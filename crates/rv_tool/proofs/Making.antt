@@ -22,32 +22,32 @@ use Rattle.rv_plan.specs.Plan.{Outcome, refuses, with_due}
 use Rattle.rv_plan.specs.Endings.{Leaves}
 use Rattle.rv_plan.specs.FileCalls.{Loads, Performs, PerformsBehind, Writes}
 use Rattle.rv_plan.specs.declared.faults.Fault.{Fault}
-use Rattle.rv_plan.specs.declared.faults.Fault.TheVariants.{Words, Elf, Budget, Read, Write, Memory, Limit}
+use Rattle.rv_plan.specs.declared.faults.Fault.TheVariants.{Words, Elf, Budget, Read, Write, Memory, Limit, Part, Step}
 use Rattle.rv_plan.specs.declared.faults.Limited.TheVariants as limited
 use Rattle.rv_plan.specs.declared.loading.Loaded.{Loaded}
 use Rattle.rv_plan.specs.declared.told.Told.{Told}
-use Rattle.rv_plan.proofs.Lemmas.{performs_behind, performs_done, performs_loaded, performs_torn}
+use Rattle.rv_plan.proofs.Lemmas.{performs-behind, performs-done, performs-loaded, performs-torn}
 use Rattle.rv_tool.specs.CommandLine.{MakeWords, make}
 use Rattle.rv_tool.specs.Headline.{Made}
 use Rattle.rv_tool.specs.Lines.{made_line}
 use Rattle.rv_tool.specs.Making.{HasPieces, IsNoSurvey, IsRecorded, IsTaskDue, piece_due, recorded}
 use Rattle.rv_trial.specs.Trials.{ends_within}
 use Rattle.rv_tool.specs.Outcome.{made, make_plan, plan_of}
-use Rattle.rv_trial.proofs.Lemmas.{found_within, none_within}
+use Rattle.rv_trial.proofs.Lemmas.{found-within, none-within}
 
 -- ---- lists
 
 single : {X : Type 0} (f : X → List ℕ) (x : X) → flat_map f (x ∷ []) ≡ f x
 single f x = append-nil (f x)
 
-pub parts_more : {X : Type 0} (f : X → List ℕ) (xs : List X) (x : X) (bytes : ℕ → List ℕ) (front : List ℕ) (n : ℕ) → flat_map f xs ≡ front ++ flat_map bytes (range_with_len 0 n) → f x ≡ bytes n
+pub parts-more : {X : Type 0} (f : X → List ℕ) (xs : List X) (x : X) (bytes : ℕ → List ℕ) (front : List ℕ) (n : ℕ) → flat_map f xs ≡ front ++ flat_map bytes (range_with_len 0 n) → f x ≡ bytes n
     → flat_map f (xs ++ x ∷ []) ≡ front ++ flat_map bytes (range_with_len 0 (n + 1))
-parts_more f xs x bytes front n before is =
+parts-more f xs x bytes front n before is =
     flat_map-append f xs (x ∷ []) ∙ ap (λ ys. flat_map f xs ++ ys) (single f x) ∙ ap (λ ys. ys ++ f x) before ∙ append_assoc front (flat_map bytes (range_with_len 0 n)) (f x)
     ∙ ap (λ ys. front ++ ys) (ap (λ ys. flat_map bytes (range_with_len 0 n) ++ ys) (is ∙ sym (single bytes n)) ∙ sym (flat_map-append bytes (range_with_len 0 n) (n ∷ [])) ∙ ap (flat_map bytes) (sym (range-snoc 0 n n (let e : 0 + n ≡ n = omega arith in e))))
 
-pub parts_last : {X : Type 0} (f : X → List ℕ) (xs : List X) (x : X) (before : List ℕ) → flat_map f xs ≡ before → flat_map f (xs ++ x ∷ []) ≡ before ++ f x
-parts_last f xs x before is = flat_map-append f xs (x ∷ []) ∙ ap (λ ys. flat_map f xs ++ ys) (single f x) ∙ ap (λ ys. ys ++ f x) is
+pub parts-last : {X : Type 0} (f : X → List ℕ) (xs : List X) (x : X) (before : List ℕ) → flat_map f xs ≡ before → flat_map f (xs ++ x ∷ []) ≡ before ++ f x
+parts-last f xs x before is = flat_map-append f xs (x ∷ []) ∙ ap (λ ys. flat_map f xs ++ ys) (single f x) ∙ ap (λ ys. ys ++ f x) is
 
 -- ---- the record
 
@@ -56,39 +56,41 @@ abbrev pub made_outcome : MakeWords → ℕ → End → List ℕ → Outcome
 made_outcome w steps e bytes = record { status = 0; text = made_line steps (div_ceil steps w.shard) e (length bytes); writes = (w.target, bytes) ∷ [] }
 
 -- what is put together is the record
-pub record_made : (w : MakeWords) (elf input : List ℕ) (p : PointsState) (b : BookState) (front output entries whole : List ℕ) → RecordIsPieces → HasPieces w elf input p b → (1 ≤ w.shard) × (w.shard ≤ 65536)
+pub record-made : (w : MakeWords) (elf input : List ℕ) (p : PointsState) (b : BookState) (front output entries whole : List ℕ) → RecordIsPieces → HasPieces w elf input p b → (1 ≤ w.shard) × (w.shard ≤ 65536)
     → front ≡ header_bytes (header w.version elf input w.shard p.steps p.end) → output ≡ (state_of p.image p.input p.steps).output → entries ≡ table_bytes (table p.image p.input p.steps)
     → whole ≡ front ++ output ++ flat_map (λ i. (piece_due w elf input i).bytes) (range_with_len 0 (div_ceil p.steps w.shard)) ++ entries → whole ≡ recorded w elf input p
-record_made w elf input p b front output entries whole law h size front_is output_is entries_is whole_is =
+record-made w elf input p b front output entries whole law h size front-is output-is entries_is whole_is =
     let i : Image = image w.version elf in
     let shards : List ℕ = flat_map (λ j. (piece_due w elf input j).bytes) (range_with_len 0 (div_ceil p.steps w.shard)) in
-    let put : output ≡ (state_of i input p.steps).output = output_is ∙ ap (λ k. (state_of k p.input p.steps).output) h.survey.image_is ∙ ap (λ x. (state_of i x p.steps).output) h.survey.input_is in
+    let put : output ≡ (state_of i input p.steps).output = output-is ∙ ap (λ k. (state_of k p.input p.steps).output) h.survey.image_is ∙ ap (λ x. (state_of i x p.steps).output) h.survey.input_is in
     let last : entries ≡ table_bytes (table i input p.steps) = entries_is ∙ ap (λ k. table_bytes (table k p.input p.steps)) h.survey.image_is ∙ ap (λ x. table_bytes (table i x p.steps)) h.survey.input_is in
-    whole_is ∙ ap (λ x. x ++ output ++ shards ++ entries) front_is ∙ ap (λ x. header_bytes (header w.version elf input w.shard p.steps p.end) ++ x ++ shards ++ entries) put
+    whole_is ∙ ap (λ x. x ++ output ++ shards ++ entries) front-is ∙ ap (λ x. header_bytes (header w.version elf input w.shard p.steps p.end) ++ x ++ shards ++ entries) put
     ∙ ap (λ x. header_bytes (header w.version elf input w.shard p.steps p.end) ++ (state_of i input p.steps).output ++ shards ++ x) last
     ∙ sym (law sha_lanes w.version elf input w.shard p.steps p.end h.survey.ends size)
 
-made_is : (w : MakeWords) (elf input : List ℕ) (p : PointsState) (bytes : List ℕ) → IsSurvey (image w.version elf) input w.shard w.budget p → bytes ≡ recorded w elf input p → made_outcome w p.steps p.end bytes ≡ made w elf input (ends_within (image w.version elf) input w.budget)
-made_is w elf input p bytes h is =
+made-is : (w : MakeWords) (elf input : List ℕ) (p : PointsState) (bytes : List ℕ) → IsSurvey (image w.version elf) input w.shard w.budget p → bytes ≡ recorded w elf input p → made_outcome w p.steps p.end bytes ≡ made w elf input (ends_within (image w.version elf) input w.budget)
+made-is w elf input p bytes h is =
     ap (made_outcome w p.steps p.end) is
     ∙ sym (ap (λ b. if b then refuses (Limit limited.Shards) else made_outcome w p.steps p.end (recorded w elf input p)) (le-ltb SHARDS_LIMIT (div_ceil p.steps w.shard) h.few))
-    ∙ sym (ap (made w elf input) (found_within (image w.version elf) input p.steps w.budget p.end h.ends h.within))
+    ∙ sym (ap (made w elf input) (found-within (image w.version elf) input p.steps w.budget p.end h.ends h.within))
 
-pub record_written : (w : MakeWords) (elf input : List ℕ) (p : PointsState) (bytes : List ℕ) (s s' : ShelfView) (told : Told) → IsSurvey (image w.version elf) input w.shard w.budget p → bytes ≡ recorded w elf input p → told.status ≡ 0 → told.text ≡ made_line p.steps (div_ceil p.steps w.shard) p.end (length bytes)
+pub record-written : (w : MakeWords) (elf input : List ℕ) (p : PointsState) (bytes : List ℕ) (s s' : ShelfView) (told : Told) → IsSurvey (image w.version elf) input w.shard w.budget p → bytes ≡ recorded w elf input p → told.status ≡ 0 → told.text ≡ made_line p.steps (div_ceil p.steps w.shard) p.end (length bytes)
     → Writes ((w.target, bytes) ∷ []) s s' (Ok tt) → PerformsBehind (make_plan w elf input) s s' (Ok told)
-record_written w elf input p bytes s s' told h is status text wrote =
-    performs_done (make_plan w elf input) s s s' told (made_outcome w p.steps p.end bytes) (record { files = refl; reads = λ _. refl; writes = λ _. refl }) (made_is w elf input p bytes h is) status text wrote
+record-written w elf input p bytes s s' told h is status text wrote =
+    performs-done (make_plan w elf input) s s s' told (made_outcome w p.steps p.end bytes) (record { files = refl; reads = λ _. refl; writes = λ _. refl }) (made-is w elf input p bytes h is) status text wrote
 
-pub record_torn : (w : MakeWords) (elf input : List ℕ) (p : PointsState) (bytes : List ℕ) (s s' : ShelfView) (f : Fault) → IsSurvey (image w.version elf) input w.shard w.budget p → bytes ≡ recorded w elf input p → Writes ((w.target, bytes) ∷ []) s s' (Err f) → PerformsBehind (make_plan w elf input) s s' (Err f)
-record_torn w elf input p bytes s s' f h is wrote =
-    performs_behind (make_plan w elf input) s s' (Err f) (performs_torn (make_plan w elf input) s s s' (made_outcome w p.steps p.end bytes) f (record { files = refl; reads = λ _. refl; writes = λ _. refl }) (made_is w elf input p bytes h is) wrote)
+pub record-torn : (w : MakeWords) (elf input : List ℕ) (p : PointsState) (bytes : List ℕ) (s s' : ShelfView) (f : Fault) → IsSurvey (image w.version elf) input w.shard w.budget p → bytes ≡ recorded w elf input p → Writes ((w.target, bytes) ∷ []) s s' (Err f) → PerformsBehind (make_plan w elf input) s s' (Err f)
+record-torn w elf input p bytes s s' f h is wrote =
+    performs-behind (make_plan w elf input) s s' (Err f) (performs-torn (make_plan w elf input) s s s' (made_outcome w p.steps p.end bytes) f (record { files = refl; reads = λ _. refl; writes = λ _. refl }) (made-is w elf input p bytes h is) wrote)
 
 -- ---- no record
 
 pub unsurveyed : (w : MakeWords) (elf input : List ℕ) (s s' : ShelfView) (f : Fault) → Leaves s s' → IsNoSurvey (image w.version elf) input w.shard w.budget f → PerformsBehind (make_plan w elf input) s s' (Err f)
 unsurveyed w elf input s s' Words h k = absurd k
 unsurveyed w elf input s s' (Elf e) h k = absurd k
-unsurveyed w elf input s s' (Budget n) h k = (h, ap (λ m. refuses (Budget m)) k.0 ∙ sym (ap (made w elf input) (none_within (image w.version elf) input w.budget k.1)))
+unsurveyed w elf input s s' (Part number fault) h k = absurd k
+unsurveyed w elf input s s' (Step steps) h k = absurd k
+unsurveyed w elf input s s' (Budget n) h k = (h, ap (λ m. refuses (Budget m)) k.0 ∙ sym (ap (made w elf input) (none-within (image w.version elf) input w.budget k.1)))
 unsurveyed w elf input s s' Read h k = absurd k
 unsurveyed w elf input s s' Write h k = absurd k
 unsurveyed w elf input s s' Memory h k = h
@@ -97,16 +99,16 @@ unsurveyed w elf input s s' (Limit what) h k =
       h,
       ap (λ x. refuses (Limit x)) k.0
           ∙ sym (ap (λ b. if b then refuses (Limit limited.Shards) else made_outcome w needs.steps needs.end (record_file sha_lanes w.version elf input w.shard needs.steps needs.end)) (lt-ltb SHARDS_LIMIT (div_ceil needs.steps w.shard) (subst (λ n. SHARDS_LIMIT < n) needs.count needs.more)))
-          ∙ sym (ap (made w elf input) (found_within (image w.version elf) input needs.steps w.budget needs.end needs.ends needs.within)),
+          ∙ sym (ap (made w elf input) (found-within (image w.version elf) input needs.steps w.budget needs.end needs.ends needs.within)),
     )
 
 -- ---- the command
 
-pub make_performs : (w : MakeWords) (s s' s'' : ShelfView) (l : Loaded) (r : Result Told Fault) → Loads w.elf w.input s s' (Ok l) → first_fault l.elf ≡ None → PerformsBehind (make_plan w l.elf l.input) s' s'' r → Performs (plan_of (make w)) s s'' r
-make_performs w s s' s'' l r h faultless performs = performs_loaded w.elf w.input s s' s'' l (make_plan w) r h faultless performs
+pub make-performs : (w : MakeWords) (s s' s'' : ShelfView) (l : Loaded) (r : Result Told Fault) → Loads w.elf w.input s s' (Ok l) → first_fault l.elf ≡ None → PerformsBehind (make_plan w l.elf l.input) s' s'' r → Performs (plan_of (make w)) s s'' r
+make-performs w s s' s'' l r h faultless performs = performs-loaded w.elf w.input s s' s'' l (make_plan w) r h faultless performs
 
-pub make_made : (w : MakeWords) (s s' s'' : ShelfView) (l : Loaded) → Loads w.elf w.input s s' (Ok l) → IsRecorded w l.elf l.input s' s'' → Made s s'' w
-make_made w s s' s'' l h r = record {
+pub make-made : (w : MakeWords) (s s' s'' : ShelfView) (l : Loaded) → Loads w.elf w.input s s' (Ok l) → IsRecorded w l.elf l.input s' s'' → Made s s'' w
+make-made w s s' s'' l h r = record {
   elf = l.elf;
   input = l.input;
   steps = r.steps;
@@ -119,30 +121,31 @@ make_made w s s' s'' l h r = record {
     writes = λ name. r.written.writes name ∙ h.0.writes name;
   };
   accepted = r.accepted;
+  short = r.short;
 }
 
 -- the line of what was made
-pub text_is : (w : MakeWords) (p : PointsState) (text : List ℕ) (steps shards : ℕ) (e : End) (size bytes : ℕ) → text ≡ made_line steps shards e size → steps ≡ p.steps → shards ≡ div_ceil p.steps p.size → p.size ≡ w.shard → e ≡ p.end → size ≡ bytes
+pub text-is : (w : MakeWords) (p : PointsState) (text : List ℕ) (steps shards : ℕ) (e : End) (size bytes : ℕ) → text ≡ made_line steps shards e size → steps ≡ p.steps → shards ≡ div_ceil p.steps p.size → p.size ≡ w.shard → e ≡ p.end → size ≡ bytes
     → text ≡ made_line p.steps (div_ceil p.steps w.shard) p.end bytes
-text_is w p text steps shards e size bytes is steps_are shards_are size_is end_is bytes_are =
+text-is w p text steps shards e size bytes is steps_are shards_are size_is end_is bytes_are =
     is ∙ ap (λ n. made_line n shards e size) steps_are ∙ ap (λ n. made_line p.steps n e size) (shards_are ∙ ap (div_ceil p.steps) size_is) ∙ ap (λ x. made_line p.steps (div_ceil p.steps w.shard) x size) end_is
     ∙ ap (made_line p.steps (div_ceil p.steps w.shard) p.end) bytes_are
 
 -- a whole book of a task that is due has the pieces of the run
-pub has_pieces : (w : MakeWords) (elf input : List ℕ) (p : PointsState) (most : ℕ) (piece : ℕ → Piece) (b : BookState) (n : ℕ) → IsTaskDue w elf input p most piece → n ≡ div_ceil p.steps p.size → IsWhole piece n b → HasPieces w elf input p b
-has_pieces w elf input p most piece b n due count whole = record {
+pub has-pieces : (w : MakeWords) (elf input : List ℕ) (p : PointsState) (most : ℕ) (piece : ℕ → Piece) (b : BookState) (n : ℕ) → IsTaskDue w elf input p most piece → n ≡ div_ceil p.steps p.size → IsWhole piece n b → HasPieces w elf input p b
+has-pieces w elf input p most piece b n due count whole = record {
   faultless = due.faultless;
   survey = due.survey;
   pieces = λ i lt. whole.each i (subst (λ m. i < m) (sym (count ∙ ap (div_ceil p.steps) due.survey.size_is)) lt) ∙ ap Some (due.pieces i);
 }
 
-pub within_task : (w : MakeWords) (elf input : List ℕ) (p : PointsState) (most : ℕ) (piece : ℕ → Piece) (n : ℕ) → IsTaskDue w elf input p most piece → n ≡ div_ceil p.steps p.size → n ≤ most
-within_task w elf input p most piece n due count = subst (λ m. m ≤ most) (sym (count ∙ ap (div_ceil p.steps) due.survey.size_is)) due.bound
+pub within-task : (w : MakeWords) (elf input : List ℕ) (p : PointsState) (most : ℕ) (piece : ℕ → Piece) (n : ℕ) → IsTaskDue w elf input p most piece → n ≡ div_ceil p.steps p.size → n ≤ most
+within-task w elf input p most piece n due count = subst (λ m. m ≤ most) (sym (count ∙ ap (div_ceil p.steps) due.survey.size_is)) due.bound
 
 -- the task of the shards of a run is due
-pub task_due : (w : MakeWords) (l : Loaded) (image_of : Image) (input : List ℕ) (p q : PointsState) → first_fault l.elf ≡ None → image_of ≡ image w.version l.elf → input ≡ l.input → IsSurvey image_of input w.shard w.budget p → q ≡ p
+pub task-due : (w : MakeWords) (l : Loaded) (image_of : Image) (input : List ℕ) (p q : PointsState) → first_fault l.elf ≡ None → image_of ≡ image w.version l.elf → input ≡ l.input → IsSurvey image_of input w.shard w.budget p → q ≡ p
     → IsTaskDue w l.elf l.input p (div_ceil q.steps q.size) (λ i. shard_piece sha_lanes q.image q.input q.size i)
-task_due w l i input p q faultless image_is input_is h same = record {
+task-due w l i input p q faultless image_is input_is h same = record {
   faultless = faultless;
   survey = subst (λ x. IsSurvey (image w.version l.elf) x w.shard w.budget p) input_is (subst (λ k. IsSurvey k input w.shard w.budget p) image_is h);
   bound = omega (arith, ap (λ x. div_ceil x.steps x.size) same, ap (div_ceil p.steps) h.size_is);
@@ -150,7 +153,7 @@ task_due w l i input p q faultless image_is input_is h same = record {
       ∙ ap (λ n. shard_piece sha_lanes (image w.version l.elf) l.input n j) h.size_is;
 }
 
-pub no_survey : (w : MakeWords) (l : Loaded) (image_of : Image) (input : List ℕ) (s : ShelfView) (f : Fault) → image_of ≡ image w.version l.elf → input ≡ l.input → IsNoSurvey image_of input w.shard w.budget f → PerformsBehind (make_plan w l.elf l.input) s s (Err f)
-no_survey w l i input s f image_is input_is h =
+pub no-survey : (w : MakeWords) (l : Loaded) (image_of : Image) (input : List ℕ) (s : ShelfView) (f : Fault) → image_of ≡ image w.version l.elf → input ≡ l.input → IsNoSurvey image_of input w.shard w.budget f → PerformsBehind (make_plan w l.elf l.input) s s (Err f)
+no-survey w l i input s f image_is input_is h =
     unsurveyed w l.elf l.input s s f (record { files = refl; writes = λ _. refl })
     (subst (λ x. IsNoSurvey (image w.version l.elf) x w.shard w.budget f) input_is (subst (λ k. IsNoSurvey k input w.shard w.budget f) image_is h))

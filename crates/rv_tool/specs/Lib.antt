@@ -1,9 +1,14 @@
 pub mod CommandLine
 pub mod Commands
 pub mod Lines
+pub mod Parts
 pub mod Differing
 pub mod Outcome
 pub mod Headline
 pub mod Judging
+pub mod Asking
+pub mod Splitting
+pub mod Joining
 pub mod Making
 pub mod CheckOfMade
+pub mod Trials

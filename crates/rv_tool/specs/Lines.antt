@@ -1,11 +1,16 @@
 -- The lines of commands that did their work: numbers are decimal (this project's own).
-use Rattle.std.specs.Prelude.{ℕ, List, [], ◌∷◌, ◌++◌, codes, decimal}
+use Rattle.std.specs.Prelude.{ℕ, List, [], ◌∷◌, ◌++◌, Option, Some, None, codes, decimal, slice_index, ◌==◌, if◌then◌else◌}
+use Rattle.std.specs.List.{flat_map, range_with_len}
 use Rattle.rv_base.specs.declared.record.End.{End}
 use Rattle.rv_base.specs.declared.record.Refusal.{Refusal}
 use Rattle.rv_base.specs.declared.record.Tuple.{Tuple}
 use Rattle.hex.specs.Hex.{encode_lower}
+use Rattle.rv_query.specs.declared.questions.CellSeen.{CellSeen}
+use Rattle.rv_query.specs.declared.questions.Snapshot.{Snapshot}
+use Rattle.rv_text.specs.Listing.{hex8}
 use Rattle.rv_trial.specs.declared.summary.Trial.{Trial}
 use Rattle.rv_plan.specs.Lines.{line, name_at}
+use Rattle.rv_tool.specs.declared.spelled_cells.TheConstants.{LAST_REGISTER}
 
 -- a space, a name, an equals sign and a number
 abbrev pub field : List ℕ → ℕ → List ℕ
@@ -54,3 +59,28 @@ with_counts text t =
 abbrev pub trial_line : ℕ → ℕ → Trial → List ℕ
 trial_line number size t =
     line (with_counts (codes "trial" ++ field (codes "number") number ++ field (codes "size") size) t ++ codes " record=" ++ encode_lower t.«record» ++ codes " accepted")
+
+-- a register that isn't 0: two blanks, its name and its value
+abbrev pub register_line : ℕ → ℕ → List ℕ
+register_line r value = if value == 0 then [] else line (codes "  x" ++ decimal r ++ 32 ∷ hex8 value)
+
+-- the address of the instruction of a step
+abbrev pub state_line : ℕ → ℕ → List ℕ
+state_line step pc = line (codes "state" ++ field (codes "step") step ++ codes " pc=" ++ hex8 pc)
+
+-- the state before a step: that line, and those of the registers x1 to x31
+abbrev pub state_lines : ℕ → Snapshot → List ℕ
+state_lines step seen = state_line step seen.pc ++ flat_map (λ r. register_line r (slice_index seen.regs r)) (range_with_len 1 LAST_REGISTER)
+
+-- the step of the last change, where there is one
+abbrev pub change_field : Option ℕ → List ℕ
+change_field (Some step) = field (codes "changed") step
+change_field None = codes " changed=never"
+
+-- what a cell held before a step
+abbrev pub cell_line : List ℕ → CellSeen → List ℕ
+cell_line name seen = line (codes "cell " ++ name ++ codes " value=" ++ hex8 seen.value ++ field (codes "time") seen.time ++ change_field seen.changed)
+
+-- the parts of a record, and their bytes in all
+abbrev pub split_line : ℕ → ℕ → List ℕ
+split_line parts bytes = line (codes "split" ++ field (codes "parts") parts ++ field (codes "bytes") bytes)

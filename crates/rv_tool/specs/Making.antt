@@ -1,5 +1,5 @@
 -- The making of a record, by what its parts answer.
-use Rattle.std.specs.Prelude.{◌≡◌, ◌<◌, ◌≤◌, ℕ, List, [], ◌∷◌, Some, None, Result, IfOk, ⊤}
+use Rattle.std.specs.Prelude.{◌≡◌, ◌<◌, ◌≤◌, ℕ, List, [], ◌∷◌, length, Some, None, Result, IfOk, ⊤}
 use Rattle.std.specs.Int.{div_ceil}
 use Rattle.rv_spec.specs.Elf.{Image, image, first_fault}
 use Rattle.rv_spec.specs.Run.{GoesOn}
@@ -12,6 +12,7 @@ use Rattle.rv_replay.specs.Piece.{shard_piece}
 use Rattle.rv_plan.specs.declared.faults.Limited.TheVariants as limited
 use Rattle.rv_plan.specs.declared.faults.Fault.{Fault}
 use Rattle.rv_plan.specs.declared.faults.Fault.TheVariants.{Budget, Memory, Limit}
+use Rattle.rv_base.specs.declared.limits.TheConstants.{RECORD_LIMIT}
 use Rattle.rv_base.specs.declared.record.End.{End}
 use Rattle.rv_base.specs.declared.record.Verdict.TheVariants.{Accept}
 use Rattle.rv_spec.specs.Conclusion.{HasRecord}
@@ -51,12 +52,13 @@ pub record IsTaskDue (w : MakeWords) (elf input : List ℕ) (p : PointsState) (m
   pub bound : div_ceil p.steps w.shard ≤ most
   pub pieces : (i : ℕ) → piece i ≡ piece_due w elf input i
 
--- what success leaves: the record of a run, which is accepted
+-- what success leaves: the record of a run, which is accepted and within its limit
 pub record IsRecorded (w : MakeWords) (elf input : List ℕ) (before after : ShelfView) : Type 0 where
   pub steps : ℕ
   pub end : End
   pub has : HasRecord w.version elf input w.shard steps end
   pub accepted : verdict sha_lanes elf input (record_file sha_lanes w.version elf input w.shard steps end) ≡ Accept steps (div_ceil steps w.shard) end
+  pub short : length (record_file sha_lanes w.version elf input w.shard steps end) ≤ RECORD_LIMIT
   pub written : IsWritten ((w.target, record_file sha_lanes w.version elf input w.shard steps end) ∷ []) before after
 
 -- the record is made as the plan says, and where it is written it is so

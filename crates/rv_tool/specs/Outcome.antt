@@ -1,27 +1,33 @@
 -- What the commands read, write and answer (this project's own).
-use Rattle.std.specs.Prelude.{ℕ, Bool, List, [], ◌∷◌, length, Option, Some, None, Result, Ok, Err, nat_lt, if◌then◌else◌}
+use Rattle.std.specs.Prelude.{ℕ, Bool, List, [], ◌∷◌, length, Option, Some, None, option_map, Result, Ok, Err, nat_lt, if◌then◌else◌, zero, suc, ◌+◌, ◌-◌, true}
 use Rattle.std.specs.Int.{div_ceil}
 use Rattle.rv_base.specs.declared.limits.TheConstants.{RECORD_LIMIT, SHARDS_LIMIT}
 use Rattle.rv_base.specs.declared.record.End.{End}
+use Rattle.rv_base.specs.declared.record.Header.{Header}
 use Rattle.rv_base.specs.declared.record.Refusal.{Refusal}
 use Rattle.rv_base.specs.declared.record.Tuple.{Tuple}
 use Rattle.rv_base.specs.declared.record.Verdict.{Verdict}
 use Rattle.rv_base.specs.declared.record.Verdict.TheVariants.{Accept, Refuse}
 use Rattle.rv_spec.specs.Elf.{Image, image}
-use Rattle.rv_spec.specs.Run.{run as run_of}
+use Rattle.rv_spec.specs.Run as isa
 use Rattle.rv_spec.specs.Digest.{sha_lanes}
 use Rattle.rv_spec.specs.Multiset.{count}
 use Rattle.rv_spec.specs.Record.{Parts, reads, writes, record_file}
+use Rattle.rv_rules.specs.Checks.{unless_broken}
+use Rattle.rv_rules.specs.Reading.{header_checks, header_of}
 use Rattle.rv_rules.specs.Verdict.{judge, parse, verdict}
+use Rattle.rv_query.specs.Questions.{cell_answer, state_answer}
 use Rattle.rv_text.specs.Listing.{listing}
 use Rattle.rv_trial.specs.Trials.{ends_within, budget, trial as trial_told}
 use Rattle.rv_trial.specs.declared.summary.Trial.{Trial}
 use Rattle.rv_host.specs.Files.{Files}
 use Rattle.rv_plan.specs.Plan.{Outcome, Plan, read, answer, refuses, read_within, read_program, outcome_over}
 use Rattle.rv_plan.specs.declared.faults.Limited.TheVariants as limited
-use Rattle.rv_plan.specs.declared.faults.Fault.TheVariants.{Words, Budget, Limit}
-use Rattle.rv_tool.specs.CommandLine.{MakeWords, CheckWords, SettleWords, RunWords, ExplainWords, TrialWords, CommandWords, make, check, settle, run, explain, trial, command}
-use Rattle.rv_tool.specs.Lines.{made_line, ran_line, accepted_line, refused_line, settled_line, collision_line, trial_line}
+use Rattle.rv_plan.specs.declared.faults.Fault.TheVariants.{Words, Budget, Limit, Step, Part}
+use Rattle.rv_tool.specs.CommandLine.{MakeWords, CheckWords, SettleWords, RunWords, ExplainWords, TrialWords, StateWords, CellWords, CommandWords, make, check, settle, run, explain, trial, state, cell, command, SplitWords, JoinWords, split, join}
+use Rattle.rv_tool.specs.Lines.{made_line, ran_line, accepted_line, refused_line, settled_line, collision_line, trial_line, state_lines, cell_line, split_line}
+use Rattle.rv_plan.specs.declared.faults.PartFault.{PartFault}
+use Rattle.rv_tool.specs.Parts.{Joined, added, added_behind, begun, bytes_due, opened, part_name, parts_due, whole_of}
 use Rattle.rv_tool.specs.Differing.{least_differing}
 
 -- a command that did its work, and one that refuses a record
@@ -37,7 +43,7 @@ denies text = record { status = 1; text = text; writes = [] }
 abbrev pub ran : RunWords → Image → List ℕ → Option (ℕ × End) → Outcome
 ran w i input None = refuses (Budget w.budget)
 ran w i input (Some ended) =
-    let output = (run_of i input ended.0).output in
+    let output = (isa.run i input ended.0).output in
     record { status = 0; text = ran_line ended.0 ended.1 (length output); writes = (w.target, output) ∷ [] }
 
 -- make writes the record of a run that ends within the budget and needs at most 65,536 shards
@@ -82,6 +88,61 @@ abbrev pub tried : TrialWords → Option Trial → Outcome
 tried w None = refuses (Budget budget)
 tried w (Some t) = tells (trial_line w.number w.size t)
 
+-- ---- questions
+
+-- what a question on an accepted file is answered by, where the file has the step that is asked for
+abbrev pub state_text : StateWords → List ℕ → Parts → Option (List ℕ)
+state_text w elf p = option_map (state_lines w.step) (state_answer elf p w.step)
+
+abbrev pub cell_text : CellWords → List ℕ → Parts → Option (List ℕ)
+cell_text w elf p = option_map (cell_line w.name) (cell_answer elf p w.number w.step)
+
+abbrev pub answered : ℕ → Option (List ℕ) → Outcome
+answered steps (Some text) = tells text
+answered steps None = refuses (Step steps)
+
+-- state and cell ask of an accepted file
+abbrev pub asked : (Parts → Option (List ℕ)) → Result Parts Refusal → Outcome
+asked text (Ok p) = answered p.header.steps (text p)
+asked text (Err r) = denies (refused_line r)
+
+-- ---- records in parts
+
+-- split writes the parts of a file of good form that has a shard for each
+abbrev pub cut : SplitWords → Result Parts Refusal → Outcome
+cut w (Err r) = denies (refused_line r)
+cut w (Ok q) =
+    let due = parts_due q w.parts w.name in
+    if nat_lt q.header.shards w.parts then refuses (Limit limited.Parts)
+    else record { status = 0; text = split_line w.parts (bytes_due due); writes = due }
+
+-- a part that has no fault
+abbrev pub unless_fault : {A : Type 0} → ℕ → Result A PartFault → (A → Plan) → Plan
+unless_fault p (Err fault) next = answer (refuses (Part p fault))
+unless_fault p (Ok x) next = next x
+
+-- a header that breaks no check
+abbrev pub unless_refused : Result Header Refusal → Plan → Plan
+unless_refused (Err r) next = answer (denies (refused_line r))
+unless_refused (Ok h) next = next
+
+-- join reads part p and those behind it, so many in all, and then tells the verdict on the file that all parts make
+abbrev pub parts_from : JoinWords → List ℕ → List ℕ → ℕ → ℕ → Joined → Plan
+parts_from w elf input zero p j = answer (told_verdict (verdict sha_lanes elf input (whole_of j)))
+parts_from w elf input (suc more) p j =
+    read_within (part_name w.name p) RECORD_LIMIT limited.Record (λ file.
+    unless_fault p (added_behind elf input j (opened w.parts p file)) (parts_from w elf input more (p + 1)))
+
+-- what join does behind part 0, whose front is judged
+abbrev pub behind_first : JoinWords → List ℕ → List ℕ → List ℕ → Plan
+behind_first w elf input file =
+    unless_fault 0 (opened w.parts 0 file) (λ x.
+    unless_refused (unless_broken 0 0 (header_checks true sha_lanes elf input x.front) (header_of x.front))
+    (unless_fault 0 (added elf input (begun x.front) x) (parts_from w elf input (w.parts - 1) 1)))
+
+abbrev pub all_parts : JoinWords → List ℕ → List ℕ → Plan
+all_parts w elf input = read_within (part_name w.name 0) RECORD_LIMIT limited.Record (behind_first w elf input)
+
 -- ---- all commands
 
 abbrev pub make_plan : MakeWords → List ℕ → List ℕ → Plan
@@ -107,6 +168,13 @@ explain_plan w = read_within w.file RECORD_LIMIT limited.Record (λ file. answer
 abbrev pub trial_plan : TrialWords → Plan
 trial_plan w = answer (tried w (trial_told w.number w.size))
 
+-- a question is put to a record that is held whole
+abbrev pub question_plan : List ℕ → (List ℕ → Parts → Option (List ℕ)) → List ℕ → List ℕ → Plan
+question_plan name text elf input = read_within name RECORD_LIMIT limited.Record (λ file. answer (asked (text elf) (judge sha_lanes elf input file)))
+
+abbrev pub split_plan : SplitWords → Plan
+split_plan w = read_within w.file RECORD_LIMIT limited.Record (λ file. answer (cut w (parse file)))
+
 abbrev pub plan_of : CommandWords → Plan
 plan_of (make w) = read_program w.elf w.input (make_plan w)
 plan_of (check w) = read_program w.elf w.input (check_plan w)
@@ -114,6 +182,10 @@ plan_of (settle w) = read_program w.elf w.input (settle_plan w)
 plan_of (run w) = read_program w.elf w.input (run_plan w)
 plan_of (explain w) = explain_plan w
 plan_of (trial w) = trial_plan w
+plan_of (state w) = read_program w.elf w.input (question_plan w.file (state_text w))
+plan_of (cell w) = read_program w.elf w.input (question_plan w.file (cell_text w))
+plan_of (split w) = split_plan w
+plan_of (join w) = read_program w.elf w.input (all_parts w)
 
 -- the plan of what the words spell
 abbrev pub plan : Option CommandWords → Plan

@@ -3,10 +3,12 @@
 ghost use Rattle.std.specs.Prelude.{map, string_bytes, IfSome};
 ghost use Rattle.std.specs.Int.{IsInRange};
 ghost use Rattle.rv_tool.specs.Commands.{HasRanges, IsCommand};
-ghost use Rattle.rv_tool.specs.CommandLine.{check_of, command, explain_of, make_of, run_of, settle_of, trial_of};
+ghost use Rattle.rv_tool.specs.CommandLine.{cell_command, check_command, command, explain_command, join_command, make_command, run_command, settle_command, split_command, state_command, trial_command};
 
 use crate::numbers::number;
+use crate::spelled_cells::cell;
 use rv_base::limits::{BUDGET_LIMIT, SHARD_SIZE_LIMIT, WORKERS_LIMIT};
+use rv_parts::PARTS_LIMIT;
 
 /// A command with its numbers read. File names are as they were given.
 #[derive(Clone, Copy, Debug)]
@@ -17,6 +19,10 @@ pub enum Command<'a> {
     Run(Run<'a>),
     Explain(Explain<'a>),
     Trial(Trial),
+    State(State<'a>),
+    Cell(Cell<'a>),
+    Split(Split<'a>),
+    Join(Join<'a>),
 }
 
 /// `make ELF INPUT RECORD WORKERS SHARD BUDGET`: writes the record of a run. `make2` does so for version 2.
@@ -98,6 +104,49 @@ pub struct Trial {
     pub size: u32,
 }
 
+/// `state ELF INPUT RECORD STEP`: tells the registers before a step, by a record.
+#[derive(Clone, Copy, Debug)]
+pub struct State<'a> {
+    pub elf: &'a str,
+    pub input: &'a str,
+    pub record: &'a str,
+    /// From 0.
+    pub step: u32,
+}
+
+/// `cell ELF INPUT RECORD CELL STEP`: tells what a cell held before a step, by a record.
+#[derive(Clone, Copy, Debug)]
+pub struct Cell<'a> {
+    pub elf: &'a str,
+    pub input: &'a str,
+    pub record: &'a str,
+    /// The cell as it is spelled.
+    pub name: &'a str,
+    /// The number of the cell.
+    pub number: u32,
+    /// From 0.
+    pub step: u32,
+}
+
+/// `split RECORD PARTS NAME`: cuts a record into parts. Part p is the file named NAME, a full stop and p in decimal.
+#[derive(Clone, Copy, Debug)]
+pub struct Split<'a> {
+    pub record: &'a str,
+    /// 1 to 64 parts.
+    pub parts: u32,
+    pub name: &'a str,
+}
+
+/// `join ELF INPUT NAME PARTS`: tells the verdict on a record in parts, named as `split` names them.
+#[derive(Clone, Copy, Debug)]
+pub struct Join<'a> {
+    pub elf: &'a str,
+    pub input: &'a str,
+    pub name: &'a str,
+    /// 1 to 64 parts.
+    pub parts: u32,
+}
+
 /// The command that the words spell. None where they are no command, or a number is misspelled or out of its range.
 pub fn parse(words: &[String]) -> Option<Command<'_>>
     ensures command { IsCommand (command (map string_bytes words.now)) result }
@@ -115,13 +164,17 @@ pub fn parse(words: &[String]) -> Option<Command<'_>>
         "run2" => parse_run(2, arguments),
         "explain" => parse_explain(arguments),
         "trial" => parse_trial(arguments),
+        "state" => parse_state(arguments),
+        "cell" => parse_cell(arguments),
+        "split" => parse_split(arguments),
+        "join" => parse_join(arguments),
         _ => None,
     }
 }
 
 fn parse_make(version: u8, arguments: &[String]) -> Option<Command<'_>>
     requires { IsInRange 1 2 version }
-    ensures command { IsCommand (make_of version (map string_bytes arguments.now)) result }
+    ensures command { IsCommand (make_command version (map string_bytes arguments.now)) result }
     ensures ranges { IfSome result HasRanges }
 {
     let [elf, input, record, workers, shard, budget] = arguments else {
@@ -142,7 +195,7 @@ fn parse_make(version: u8, arguments: &[String]) -> Option<Command<'_>>
 }
 
 fn parse_check(arguments: &[String]) -> Option<Command<'_>>
-    ensures command { IsCommand (check_of (map string_bytes arguments.now)) result }
+    ensures command { IsCommand (check_command (map string_bytes arguments.now)) result }
     ensures ranges { IfSome result HasRanges }
 {
     let [elf, input, record, workers] = arguments else {
@@ -158,7 +211,7 @@ fn parse_check(arguments: &[String]) -> Option<Command<'_>>
 }
 
 fn parse_settle(arguments: &[String]) -> Option<Command<'_>>
-    ensures command { IsCommand (settle_of (map string_bytes arguments.now)) result }
+    ensures command { IsCommand (settle_command (map string_bytes arguments.now)) result }
     ensures ranges { IfSome result HasRanges }
 {
     let [elf, input, record] = arguments else {
@@ -173,7 +226,7 @@ fn parse_settle(arguments: &[String]) -> Option<Command<'_>>
 
 fn parse_run(version: u8, arguments: &[String]) -> Option<Command<'_>>
     requires { IsInRange 1 2 version }
-    ensures command { IsCommand (run_of version (map string_bytes arguments.now)) result }
+    ensures command { IsCommand (run_command version (map string_bytes arguments.now)) result }
     ensures ranges { IfSome result HasRanges }
 {
     let [elf, input, output, budget] = arguments else {
@@ -190,7 +243,7 @@ fn parse_run(version: u8, arguments: &[String]) -> Option<Command<'_>>
 }
 
 fn parse_explain(arguments: &[String]) -> Option<Command<'_>>
-    ensures command { IsCommand (explain_of (map string_bytes arguments.now)) result }
+    ensures command { IsCommand (explain_command (map string_bytes arguments.now)) result }
     ensures ranges { IfSome result HasRanges }
 {
     let [record, from, count] = arguments else {
@@ -206,7 +259,7 @@ fn parse_explain(arguments: &[String]) -> Option<Command<'_>>
 }
 
 fn parse_trial(arguments: &[String]) -> Option<Command<'_>>
-    ensures command { IsCommand (trial_of (map string_bytes arguments.now)) result }
+    ensures command { IsCommand (trial_command (map string_bytes arguments.now)) result }
     ensures ranges { IfSome result HasRanges }
 {
     let [number_word, size] = arguments else {
@@ -217,5 +270,71 @@ fn parse_trial(arguments: &[String]) -> Option<Command<'_>>
     Some(Command::Trial(Trial {
         number: drawn,
         size,
+    }))
+}
+
+fn parse_state(arguments: &[String]) -> Option<Command<'_>>
+    ensures command { IsCommand (state_command (map string_bytes arguments.now)) result }
+    ensures ranges { IfSome result HasRanges }
+{
+    let [elf, input, record, step] = arguments else {
+        return None;
+    };
+    let step = number(step.as_str(), 0, LAST_STEP)?;
+    Some(Command::State(State {
+        elf: elf.as_str(),
+        input: input.as_str(),
+        record: record.as_str(),
+        step,
+    }))
+}
+
+fn parse_cell(arguments: &[String]) -> Option<Command<'_>>
+    ensures command { IsCommand (cell_command (map string_bytes arguments.now)) result }
+    ensures ranges { IfSome result HasRanges }
+{
+    let [elf, input, record, name, step] = arguments else {
+        return None;
+    };
+    let number_of = cell(name.as_str())?;
+    let step = number(step.as_str(), 0, LAST_STEP)?;
+    Some(Command::Cell(Cell {
+        elf: elf.as_str(),
+        input: input.as_str(),
+        record: record.as_str(),
+        name: name.as_str(),
+        number: number_of,
+        step,
+    }))
+}
+
+fn parse_split(arguments: &[String]) -> Option<Command<'_>>
+    ensures command { IsCommand (split_command (map string_bytes arguments.now)) result }
+    ensures ranges { IfSome result HasRanges }
+{
+    let [record, parts, name] = arguments else {
+        return None;
+    };
+    let parts = number(parts.as_str(), 1, PARTS_LIMIT)?;
+    Some(Command::Split(Split {
+        record: record.as_str(),
+        parts,
+        name: name.as_str(),
+    }))
+}
+
+fn parse_join(arguments: &[String]) -> Option<Command<'_>>
+    ensures command { IsCommand (join_command (map string_bytes arguments.now)) result }
+    ensures ranges { IfSome result HasRanges }
+{
+    let [elf, input, name, parts] = arguments else {
+        return None;
+    };
+    let parts = number(parts.as_str(), 1, PARTS_LIMIT)?;
+    Some(Command::Join(Join {
+        elf: elf.as_str(),
+        input: input.as_str(),
+        name: name.as_str(),
+        parts,
     }))
 }

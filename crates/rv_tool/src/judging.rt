@@ -55,7 +55,7 @@ pub fn judge_file<S: Shelf>(
 }
 
 /// The law of an opened program: its file has no fault, and both files are bytes.
-fn opened(program: &Program<'_>)
+pub fn opened(program: &Program<'_>)
     ensures faultless { first_fault program.now.elf ≡ None }
     ensures elf { AreBytes program.now.elf }
     ensures input { AreBytes program.now.input }

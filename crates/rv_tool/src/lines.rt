@@ -145,6 +145,16 @@ pub fn trial_line(alloc: Global, number: u32, size: u32, trial: &Trial) -> Resul
     }
 }
 
+/// The line of a record that was cut into so many parts, with so many bytes in all.
+pub fn split_line(alloc: Global, parts: u32, bytes: u64) -> Result<Text, NoMemory>
+    ensures { IfOk result (λ text. text ≡ lines.split_line parts bytes) }
+{
+    match format!(in alloc; "split parts={parts} bytes={bytes}\n") {
+        Ok(text) => Ok(Text::of(text)),
+        Err(_) => Err(NoMemory),
+    }
+}
+
 /// The name of a rule of the verdict, as the line of a refusal prints it. A number of no rule has none.
 fn rule_name(rule: u8) -> &'static str
     ensures { result.now ≡ name_at rule_names rule }

@@ -1,9 +1,12 @@
 //! Fuzakhi: records the run of a RISC-V program, so that others can check it.
 #![tactic(auto)]
 
+mod answer_lines;
+mod asking;
 mod check;
 mod commands;
 mod explain;
+mod join;
 mod judging;
 mod lines;
 mod make;
@@ -11,6 +14,8 @@ mod numbers;
 mod recording;
 mod run;
 mod settle;
+mod spelled_cells;
+mod split;
 #[cfg(test)]
 mod tests;
 mod top;

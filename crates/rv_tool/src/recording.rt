@@ -22,7 +22,7 @@ ghost use Rattle.rv_tool.specs.Outcome.{make_plan};
 use crate::commands::Make;
 use crate::lines::made_line;
 use rv_base::layout::HEADER_BYTES;
-use rv_base::limits::{BUDGET_LIMIT, SHARD_SIZE_LIMIT};
+use rv_base::limits::{BUDGET_LIMIT, RECORD_LIMIT, SHARD_SIZE_LIMIT};
 use rv_base::{Header, NoMemory};
 use rv_book::{Book, Task};
 use rv_elf::laws::image_is_program;
@@ -30,6 +30,7 @@ use rv_file::{table_bytes, write_header};
 use rv_host::Shelf;
 use rv_isa::laws::ranges;
 use rv_judge::laws::verdicts_conclude;
+use rv_length::record_lengths;
 use rv_plan::{DueFile, Fault, Loaded, Told, write_files};
 use rv_point::Points;
 use sha2::{Digest, Sha512};
@@ -140,7 +141,7 @@ fn bytes_of<'b, T: Task>(book: &'b Book<'_, T>, i: u32) -> &'b [u8]
 }
 
 /// The number of bytes of all parts, where it is below 2^64.
-fn length(parts: &[&[u8]]) -> Option<u64>
+pub fn length(parts: &[&[u8]]) -> Option<u64>
     ensures { IfSome result (λ bytes. bytes ≡ length_of (flat_map (λ part. part.now) parts.now)) }
 {
     let mut bytes: u64 = 0;
@@ -150,7 +151,7 @@ fn length(parts: &[&[u8]]) -> Option<u64>
     Some(bytes)
 }
 
-/// The law of what is made: the run has a record within its limits, which is accepted.
+/// The law of what is made: the run has a record within its limits, which is accepted and can be held whole.
 pub fn record_is_accepted(
     version: u8,
     size: u32,
@@ -166,8 +167,10 @@ pub fn record_is_accepted(
     requires survey { IsSurvey (image version elf.now) input.now size budget points.now }
     ensures has { HasRecord version elf.now input.now size points.now.steps points.now.end }
     ensures accepted { verdict sha_lanes elf.now input.now (record_file sha_lanes version elf.now input.now size points.now.steps points.now.end) ≡ Accept points.now.steps (div_ceil points.now.steps size) points.now.end }
+    ensures short { length_of (record_file sha_lanes version elf.now input.now size points.now.steps points.now.end) ≤ RECORD_LIMIT }
 {
     image_is_program();
     ranges();
     verdicts_conclude();
+    record_lengths();
 }

@@ -7,9 +7,12 @@ mod failing;
 mod holding;
 mod listing;
 mod making;
+mod parting;
 mod programs;
+mod questions;
 mod running;
 mod sharding;
+mod sweeping;
 mod trying;
 
 use crate::{needs_team, tool, tool_one};
@@ -83,6 +86,8 @@ fn expect_by_team<R: Abort + AllocGlobal + Threads + Wait + Sync>(
 #[test]
 fn words_that_are_no_command(rt: HostRuntime) -> Result<(), Fail> {
     let mut shelf = shelf_with(&rt, &PROGRAM)?;
+    // a refusal of words comes before any read
+    shelf.plan_read(1);
     let lines = [
         "",
         "--help",

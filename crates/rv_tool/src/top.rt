@@ -7,13 +7,17 @@ ghost use Rattle.rv_tool.specs.CommandLine.{command, is_teamwork};
 ghost use Rattle.rv_tool.specs.Commands.{words_of, HasRanges};
 ghost use Rattle.rv_tool.specs.Headline.{Headline};
 ghost use Rattle.rv_tool.specs.Outcome.{plan, plan_of};
+ghost use Rattle.rv_tool.specs.Trials.{TrialEnds};
 
+use crate::asking::{cell, state};
 use crate::check::{check, check_by_team};
 use crate::commands::{Command, parse};
 use crate::explain::explain;
+use crate::join::join;
 use crate::make::{make, make_by_team};
 use crate::run::run;
 use crate::settle::settle;
+use crate::split::split;
 use crate::trial::trial;
 use rv_host::{Gate, Shelf, Sink};
 use rv_plan::{Fault, Told, tell};
@@ -28,7 +32,16 @@ pub fn needs_team(words: &[String]) -> bool
     match parse(words) {
         Some(Command::Make(make)) => make.workers > 1,
         Some(Command::Check(check)) => check.workers > 1,
-        Some(Command::Settle(_) | Command::Run(_) | Command::Explain(_) | Command::Trial(_))
+        Some(
+            Command::Settle(_)
+            | Command::Run(_)
+            | Command::Explain(_)
+            | Command::Trial(_)
+            | Command::State(_)
+            | Command::Cell(_)
+            | Command::Split(_)
+            | Command::Join(_),
+        )
         | None => false,
     }
 }
@@ -43,7 +56,9 @@ pub fn needs_team(words: &[String]) -> bool
 /// - 5: a file couldn't be read
 /// - 6: a file or the text couldn't be written
 /// - 7: want of memory
-/// - 8: a file, or what a run needs, is above its limit
+/// - 8: a file, or what a run needs, is above its limit, or there are more parts than shards
+/// - 11: a part of a record has a fault
+/// - 12: the record has no such step
 ///
 /// The words are those after the program's own name.
 pub fn tool<R: Threads + Wait + Sync, S: Shelf, K: Sink, G: Gate>(
@@ -56,6 +71,7 @@ pub fn tool<R: Threads + Wait + Sync, S: Shelf, K: Sink, G: Gate>(
 ) -> u8
     ensures answers { Answers (plan (command (map string_bytes words.now))) (S.view shelf.old) (S.view shelf.new) (K.view out.old) (K.view out.new) result }
     ensures headline { result ≡ 0 → Headline (command (map string_bytes words.now)) (S.view shelf.old) (S.view shelf.new) }
+    ensures tried { TrialEnds (command (map string_bytes words.now)) (K.view out.old) (K.view out.new) result }
 {
     match parse(words) {
         Some(asked) => tell(alloc, out, perform_by_team(rt, alloc, &asked, shelf, gate)),
@@ -73,6 +89,7 @@ pub fn tool_one<S: Shelf, K: Sink>(
     requires alone { is_teamwork (command (map string_bytes words.now)) ≡ false }
     ensures answers { Answers (plan (command (map string_bytes words.now))) (S.view shelf.old) (S.view shelf.new) (K.view out.old) (K.view out.new) result }
     ensures headline { result ≡ 0 → Headline (command (map string_bytes words.now)) (S.view shelf.old) (S.view shelf.new) }
+    ensures tried { TrialEnds (command (map string_bytes words.now)) (K.view out.old) (K.view out.new) result }
 {
     match parse(words) {
         Some(asked) => tell(alloc, out, perform_alone(alloc, &asked, shelf)),
@@ -99,6 +116,10 @@ fn perform_by_team<R: Threads + Wait + Sync, S: Shelf, G: Gate>(
         Command::Run(words) => run(alloc, words, shelf),
         Command::Explain(words) => explain(alloc, words, shelf),
         Command::Trial(words) => trial(alloc, words),
+        Command::State(words) => state(alloc, words, shelf),
+        Command::Cell(words) => cell(alloc, words, shelf),
+        Command::Split(words) => split(alloc, words, shelf),
+        Command::Join(words) => join(alloc, words, shelf),
     }
 }
 
@@ -116,5 +137,9 @@ fn perform_alone<S: Shelf>(alloc: Global, asked: &Command<'_>, shelf: &mut S) ->
         Command::Run(words) => run(alloc, words, shelf),
         Command::Explain(words) => explain(alloc, words, shelf),
         Command::Trial(words) => trial(alloc, words),
+        Command::State(words) => state(alloc, words, shelf),
+        Command::Cell(words) => cell(alloc, words, shelf),
+        Command::Split(words) => split(alloc, words, shelf),
+        Command::Join(words) => join(alloc, words, shelf),
     }
 }

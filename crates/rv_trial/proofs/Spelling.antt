@@ -4,19 +4,19 @@ use Rattle.std.specs.List.{AllByRecursion}
 use Rattle.rv_base.specs.declared.instr.Instr.{Instr}
 use Rattle.rv_spec.specs.Decode.{decode}
 use Rattle.rv_decode.specs.Encoding.{word_of}
-use Rattle.rv_decode.proofs.TableRows.{decode-spells}
+use Rattle.rv_decode.proofs.Lemmas.{decode-spells}
 use Rattle.rv_gen.specs.Programs.{IsProgram, executable_of}
 use Rattle.rv_trial.specs.Trials.{elf_of}
 
-words_are : (words : List ℕ) (instrs : List Instr) → AllByRecursion (λ w. w < 2 ^ 32) words → map decode words ≡ map Some instrs → words ≡ map word_of instrs
-words_are [] [] fit e = refl
-words_are [] (i ∷ is) fit e = let none = ap length e in absurd (omega (arith, none))
-words_are (w ∷ ws) [] fit e = let none = ap length e in absurd (omega (arith, none))
-words_are (w ∷ ws) (i ∷ is) fit e =
+words-are : (words : List ℕ) (instrs : List Instr) → AllByRecursion (λ w. w < 2 ^ 32) words → map decode words ≡ map Some instrs → words ≡ map word_of instrs
+words-are [] [] fit e = refl
+words-are [] (i ∷ is) fit e = let none = ap length e in absurd (omega (arith, none))
+words-are (w ∷ ws) [] fit e = let none = ap length e in absurd (omega (arith, none))
+words-are (w ∷ ws) (i ∷ is) fit e =
     let first : decode w ≡ Some i = ap (λ l. slice_index_or l 0 None) e in
     let word : w ≡ word_of i = sym (decode-spells w fit.0 i first).word_is in
-    let rest : ws ≡ map word_of is = words_are ws is fit.1 (ap (drop 1) e) in
+    let rest : ws ≡ map word_of is = words-are ws is fit.1 (ap (drop 1) e) in
     λ t. word t ∷ rest t
 
-pub program_file : (number size : ℕ) (file input : List ℕ) → IsProgram number size file input → file ≡ elf_of number size
-program_file number size file input is = is.elf ∙ ap executable_of (words_are is.code _ is.spells.fit is.spells.spell)
+pub program-file : (number size : ℕ) (file input : List ℕ) → IsProgram number size file input → file ≡ elf_of number size
+program-file number size file input is = is.elf ∙ ap executable_of (words-are is.code _ is.spells.fit is.spells.spell)

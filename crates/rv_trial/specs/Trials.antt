@@ -1,7 +1,7 @@
 -- The trial of a number and a size: the record of the run of their generated program on its input, at version 1 and with 1,024 rows a shard, and what is told of it (this project's own).
 use Rattle.std.specs.Prelude.{◌≡◌, ℕ, zero, suc, ◌≤◌, List, length, map, take, Option, Some, None, option_map}
 use Rattle.std.specs.List.{flat_map}
-use Rattle.std.specs.Int.{div_ceil}
+use Rattle.std.specs.Int.{IsInRange, div_ceil}
 use Rattle.sha2.specs.Sha512.{sha512}
 use Rattle.rv_base.specs.declared.record.End.{End}
 use Rattle.rv_base.specs.declared.record.Verdict.TheVariants.{Accept}
@@ -78,3 +78,14 @@ pub record Accepted (number size : ℕ) (t : Trial) : Type 0 where
   pub ends : EndsIn (image_of number size) (input_of number size) t.steps success
   pub few : t.steps ≤ 326025
   pub verdict : verdict sha_lanes (elf_of number size) (input_of number size) (record_of number size (t.steps, success)) ≡ Accept t.steps t.shards success
+
+-- The trial is told: the run exits with code 0 after the steps that are told, within 326,025.
+pub record IsTold (number size : ℕ) : Type 0 where
+  pub told : Trial
+  pub is : trial number size ≡ Some told
+  pub ends : EndsIn (image_of number size) (input_of number size) told.steps success
+  pub few : told.steps ≤ 326025
+
+-- The law: the trial of each number and each size from 42 to 84,000 is told.
+abbrev pub TrialsAreTold : Type 0
+TrialsAreTold = (number size : ℕ) → IsInRange 42 84000 size → IsTold number size

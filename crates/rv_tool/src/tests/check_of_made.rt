@@ -35,7 +35,7 @@ fn make_then_check<R: Threads + Wait + Sync, G: Gate>(
     shelf: &mut CalmShelf,
     gate: &G,
 ) -> (u8, u8)
-    ensures { MadeIsAccepted (command (map string_bytes make.now)) (command (map string_bytes check.now)) shelf.new.files result.0 result.1 }
+    ensures { MadeIsAccepted (command (map string_bytes make.now)) (command (map string_bytes check.now)) result.0 result.1 }
 {
     let mut output = Nowhere;
     let made = tool(rt, alloc, make, shelf, &mut output, gate);

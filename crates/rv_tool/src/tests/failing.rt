@@ -4,7 +4,7 @@ ghost use Rattle.std.specs.Prelude.{◌≡◌, ◌≢◌, false, map, string_byt
 ghost use Rattle.rv_tool.specs.CommandLine.{command, is_teamwork};
 
 use super::programs::{PROGRAM, RECORD, of_code, spelled};
-use super::running::{GREETED, GREETING, RESERVING_GREETING};
+use super::running::{GREETED, GREETING};
 use super::{MADE, expect, shelf_with, words_of};
 use crate::{needs_team, tool_one};
 use rv_host::{CalmShelf, MemShelf, MemSink};
@@ -99,30 +99,6 @@ fn run_with_each_failure(rt: HostRuntime) -> Result<(), Fail> {
             (Failure::Append(1, 1), 6, "fault write\n", Some(1)),
             (Failure::Put(3), 6, "ran", Some(3)),
             (Failure::ShortReads, 0, GREETED, Some(3)),
-        ],
-    )
-}
-
-#[test]
-fn run2_with_each_failure(rt: HostRuntime) -> Result<(), Fail> {
-    answers(
-        &rt,
-        "run2 elf input target 100",
-        &of_code(&rt, &RESERVING_GREETING)?,
-        b"hi\n",
-        &[
-            (Failure::Read(1), 5, "fault read\n", None),
-            (Failure::Read(2), 5, "fault read\n", None),
-            (Failure::Read(3), 5, "fault read\n", None),
-            (Failure::Create, 6, "fault write\n", None),
-            (Failure::Append(1, 2), 6, "fault write\n", Some(2)),
-            (Failure::Put(0), 6, "", Some(3)),
-            (
-                Failure::ShortReads,
-                0,
-                "ran steps=11 end=0 code=3 output=3\n",
-                Some(3),
-            ),
         ],
     )
 }

@@ -5,7 +5,7 @@ use super::{expect, shelf_with};
 use std::test::Fail;
 
 /// The first row of the record of `PROGRAM`.
-const FIRST: &str = "\
+pub const FIRST: &str = "\
 step 0 pc 00010000 word 02a00513 addi x10, x0, 42
   slot 1 m00010000 02a00513@0 02a00513@1
   slot 7 x10 00000000@0 0000002a@7

@@ -1,5 +1,5 @@
-use Rattle.rv_book.proofs.BoardSums.{each_added_once}
+use Rattle.rv_book.proofs.BoardSums.{each-added-once}
 use Rattle.rv_book.proofs.machine.each_added_once.Goals as goal
 
 pub returns : goal.returns
-returns c = each_added_once
+returns c = each-added-once

@@ -1,6 +1,6 @@
 use Rattle.std.proofs.Common.{◌<◌, length, ap, ◌∙◌, arith}
 use Rattle.rv_claim.proofs.Steps.{Seat}
-use Rattle.rv_claim.proofs.Seated.{seat_joins}
+use Rattle.rv_claim.proofs.Seated.{seat-joins}
 use Rattle.rv_claim.proofs.closing.gather_passes.Goals as goal
 
 pub join_seat-requires : goal.join_seat-requires
@@ -12,5 +12,5 @@ join_seat-requires g c =
       ap (λ q. q.seat.table_id) c.remove-seat.ensures.value ∙ i.4 0 p some_left,
       ap (λ (m : Seat). m.1) p.sits,
       c.requires.table,
-      seat_joins _ _ _ _ c.loop-passes.home.me p.seat.id p.seat.me.0 _ _ i.1 i.2 (ap (λ (m : Seat). m.0) p.sits) p.idle,
+      seat-joins _ _ _ _ c.loop-passes.home.me p.seat.id p.seat.me.0 _ _ i.1 i.2 (ap (λ (m : Seat). m.0) p.sits) p.idle,
     )

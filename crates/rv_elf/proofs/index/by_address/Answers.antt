@@ -1,6 +1,6 @@
 use Rattle.std.proofs.Common.{length, arith, subst, ◌∙◌, ap}
 use Rattle.rv_elf.specs.Index.{AreBegun}
-use Rattle.rv_elf.proofs.IndexLaws.{placed, left_out}
+use Rattle.rv_elf.proofs.IndexLaws.{placed, left-out}
 use Rattle.rv_elf.proofs.index.by_address.Goals as goal
 use Rattle.rv_elf.proofs.index.by_address.Goals.{then-segment-gt0, else-segment-gt0}
 
@@ -22,6 +22,6 @@ loop-segment-preserved c = elim c.if-segment-gt0.branch [
       let size = c.loop-segment.invariant.size in
       record {
         size = rw items (omega arith);
-        indexed = rw items (left_out c.args.loads.now c.loop-segment.segment-index _ c.loop-segment.index.items c.loop-segment-test.true c.loop-segment.invariant.indexed w.if-segment-gt0.false);
+        indexed = rw items (left-out c.args.loads.now c.loop-segment.segment-index _ c.loop-segment.index.items c.loop-segment-test.true c.loop-segment.invariant.indexed w.if-segment-gt0.false);
       }
 ]

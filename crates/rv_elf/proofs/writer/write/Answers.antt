@@ -2,7 +2,7 @@ use Rattle.std.proofs.Common.{length, ap, sym, subst, ◌∙◌}
 use Rattle.rv_spec.specs.Elf.{first_fault, image}
 use Rattle.rv_elf.specs.Written.{HoldsParts, with_bytes}
 use Rattle.rv_elf.proofs.WriterLaws.{file-is}
-use Rattle.rv_elf.proofs.PartLaws.{written_size, written_faultless, written_image, written_bytes}
+use Rattle.rv_elf.proofs.PartLaws.{written-size, written-faultless, written-image, written-bytes}
 use Rattle.rv_elf.proofs.writer.write.Goals as goal
 
 pub returns-in-Ok-clause-file : goal.returns-in-Ok-clause-file
@@ -12,22 +12,22 @@ pub returns-in-Ok-clause-size : goal.returns-in-Ok-clause-size
 returns-in-Ok-clause-size c =
     let r = c.requires in
     ap length (c.in-Ok.ensures.file ∙ file-is c.args.entry c.args.parts.now c.args.bytes.now r.whole)
-    ∙ written_size c.args.entry c.args.parts.now c.args.bytes.now c.ranges.entry.fits r.aligned r.few c.in-Ok.ensures.ranges r.fit r.in_memory r.whole r.apart r.within_limit
+    ∙ written-size c.args.entry c.args.parts.now c.args.bytes.now c.ranges.entry.fits r.aligned r.few c.in-Ok.ensures.ranges r.fit r.in_memory r.whole r.apart r.within_limit
 
 pub returns-in-Ok-clause-faultless : goal.returns-in-Ok-clause-faultless
 returns-in-Ok-clause-faultless c =
     let r = c.requires in
     ap first_fault (c.in-Ok.ensures.file ∙ file-is c.args.entry c.args.parts.now c.args.bytes.now r.whole)
-    ∙ written_faultless c.args.entry c.args.parts.now c.args.bytes.now c.ranges.entry.fits r.aligned r.few c.in-Ok.ensures.ranges r.fit r.in_memory r.whole r.apart r.within_limit
+    ∙ written-faultless c.args.entry c.args.parts.now c.args.bytes.now c.ranges.entry.fits r.aligned r.few c.in-Ok.ensures.ranges r.fit r.in_memory r.whole r.apart r.within_limit
 
 pub returns-in-Ok-clause-image : goal.returns-in-Ok-clause-image
 returns-in-Ok-clause-image c =
     let r = c.requires in
     ap (image 1) (c.in-Ok.ensures.file ∙ file-is c.args.entry c.args.parts.now c.args.bytes.now r.whole)
-    ∙ written_image c.args.entry c.args.parts.now c.args.bytes.now c.ranges.entry.fits r.aligned r.few c.in-Ok.ensures.ranges r.fit r.in_memory r.whole r.apart r.within_limit
+    ∙ written-image c.args.entry c.args.parts.now c.args.bytes.now c.ranges.entry.fits r.aligned r.few c.in-Ok.ensures.ranges r.fit r.in_memory r.whole r.apart r.within_limit
 
 pub returns-in-Ok-clause-held : goal.returns-in-Ok-clause-held
 returns-in-Ok-clause-held c =
     let r = c.requires in
     subst (λ f. HoldsParts (with_bytes c.args.parts.now c.args.bytes.now) (image 1 f)) (sym (c.in-Ok.ensures.file ∙ file-is c.args.entry c.args.parts.now c.args.bytes.now r.whole))
-    (written_bytes c.args.entry c.args.parts.now c.args.bytes.now c.ranges.entry.fits r.aligned r.few c.in-Ok.ensures.ranges r.fit r.in_memory r.whole r.apart r.within_limit)
+    (written-bytes c.args.entry c.args.parts.now c.args.bytes.now c.ranges.entry.fits r.aligned r.few c.in-Ok.ensures.ranges r.fit r.in_memory r.whole r.apart r.within_limit)

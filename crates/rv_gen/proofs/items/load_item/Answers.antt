@@ -1,7 +1,7 @@
 use Rattle.std.proofs.Common.{◌≡◌, ℤ, w32, to_z, of_z, refl, ap, ◌∙◌, arith}
 use Rattle.std.proofs.lemmas.Int.{ints}
 use Rattle.rv_gen.specs.Programs.{load_item, offset}
-use Rattle.rv_gen.proofs.Binds.{bind_is}
+use Rattle.rv_gen.proofs.Binds.{binding}
 use Rattle.rv_gen.proofs.items.load_item.Goals as goal
 
 pub returns-clause-drawn : goal.returns-clause-drawn
@@ -9,4 +9,4 @@ unfolding load_item
 returns-clause-drawn c =
     let same : to_z w32 (of_z w32 c.offset-imm.result) ≡ c.offset-imm.result = omega (arith, ints) in
     let imm = ap (λ (z : ℤ). (z, c.offset-imm.new.self.state)) same ∙ c.offset-imm.ensures.drawn ∙ ap (λ w. offset w c.pool-rd.new.self.state) c.load_width.ensures.value in
-    bind_is _ _ _ _ _ _ c.draw.ensures.drawn (bind_is _ _ _ _ _ _ c.pool-rd.ensures.drawn (bind_is _ _ _ _ _ _ imm refl))
+    binding _ _ _ _ _ _ c.draw.ensures.drawn (binding _ _ _ _ _ _ c.pool-rd.ensures.drawn (binding _ _ _ _ _ _ imm refl))

@@ -1,7 +1,7 @@
 use Rattle.std.proofs.Common.{◌≡◌, ℕ, suc, ◌+◌, ◌-◌, List, [], ◌∷◌, ◌++◌, refl, sym, ap, ◌∙◌, append_assoc, arith}
 use Rattle.std.proofs.lemmas.List.{append-nil}
 use Rattle.rv_gen.specs.Draws.{bytes}
-use Rattle.rv_gen.proofs.Binds.{bind_is}
+use Rattle.rv_gen.proofs.Binds.{binding}
 use Rattle.rv_gen.proofs.made.input.Goals as goal
 
 pub loop-preserved : goal.loop-preserved
@@ -10,7 +10,7 @@ loop-preserved c rest t h =
     let more : 256 - c.loop.counter ≡ suc (256 - (c.loop.counter + 1)) = omega arith in
     let d = c.draw.result in
     let next : (d ∷ rest, t) ≡ bytes (256 - c.loop.counter) c.loop.draws.state =
-    bind_is _ _ _ _ _ _ c.draw.ensures.drawn (bind_is _ _ _ _ _ _ h refl) ∙ ap (λ k. bytes k c.loop.draws.state) (sym more) in
+    binding _ _ _ _ _ _ c.draw.ensures.drawn (binding _ _ _ _ _ _ h refl) ∙ ap (λ k. bytes k c.loop.draws.state) (sym more) in
     ap (λ (l : List ℕ). (l ++ rest, t)) c.in_ok-push.ensures.items ∙ ap (λ (l : List ℕ). (l, t)) (append_assoc c.loop.input.items (d ∷ []) rest) ∙ c.loop.invariant (d ∷ rest) t next
 
 pub returns : goal.returns

@@ -1,7 +1,7 @@
 use Rattle.std.proofs.Common.{◌≡◌, ℕ, ◌+◌, ◌-◌, List, length, subst, ap, arith}
 use Rattle.rv_gen.specs.Words.{Adds}
 use Rattle.rv_gen.specs.Programs.{items, filled, front, back}
-use Rattle.rv_gen.proofs.Lengths.{adds-length, items-few, filled-length, code_adds}
+use Rattle.rv_gen.proofs.Lengths.{adds-length, items-few, filled-length, code-adds}
 use Rattle.rv_gen.proofs.words.code.Goals as goal
 
 pub overflow_cast-body : goal.overflow_cast-body
@@ -23,7 +23,7 @@ returns-clause-drawn c =
     let body = adds-length (items 32 s).0 c.push_words.new.code.items c.push_items.new.code.items c.in_ok-push_items.ensures.0 in
     let count : n ≡ length (items 32 s).0 = omega (arith, body, c.len.ensures, c.len-start.ensures) in
     let begun = subst (λ (l : List ℕ). Adds (front c.args.rounds) l c.push_front.new.code.items) c.new-code.ensures.items c.in_ok-push_front.ensures in
-    code_adds c.args.rounds n c.args.draws.now.state s c.push_items.new.draws.state c.push_front.new.code.items c.push_words.new.code.items c.push_items.new.code.items c.push_back.new.code.items
+    code-adds c.args.rounds n c.args.draws.now.state s c.push_items.new.draws.state c.push_front.new.code.items c.push_words.new.code.items c.push_items.new.code.items c.push_back.new.code.items
     begun c.in_ok-push_words.ensures c.in_ok-push_items.ensures c.in_ok-push_back.ensures count
 
 pub returns-clause-few : goal.returns-clause-few

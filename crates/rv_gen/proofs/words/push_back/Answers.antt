@@ -5,7 +5,7 @@ use Rattle.rv_base.specs.declared.instr.Instr.TheVariants as instr
 use Rattle.rv_base.specs.declared.instr.Cond.TheVariants as cond
 use Rattle.rv_gen.specs.Words.{Adds}
 use Rattle.rv_gen.specs.Programs.{back}
-use Rattle.rv_gen.proofs.Binds.{on_ok, adds_6}
+use Rattle.rv_gen.proofs.Binds.{on-ok, adds-6}
 use Rattle.rv_gen.proofs.words.push_back.Goals as goal
 
 pub returns : goal.returns
@@ -19,4 +19,4 @@ returns c =
     let z = to_z w32 (of_z w32 c.loop_offset.result) in
     let is = fence ∷ c.add_immediate.result ∷ branch z ∷ c.load_immediate.result ∷ c.load_immediate-2.result ∷ instr.Ecall ∷ [] in
     let same : is ≡ back n = (λ i. fence ∷ c.add_immediate.ensures.value i ∷ branch (back_to i) ∷ c.load_immediate.ensures.value i ∷ c.load_immediate-2.ensures.value i ∷ instr.Ecall ∷ []) in
-    on_ok c.push-6.result (λ last. subst (λ (l : List Instr). Adds l old c.push-6.new.code.items) same (adds_6 fence c.add_immediate.result (branch z) c.load_immediate.result c.load_immediate-2.result instr.Ecall old _ _ _ _ _ _ c.in_ok-push.ensures c.in_ok-push-2.ensures c.in_ok-push-3.ensures c.in_ok-push-4.ensures c.in_ok-push-5.ensures last)) c.push-6.ensures
+    on-ok c.push-6.result (λ last. subst (λ (l : List Instr). Adds l old c.push-6.new.code.items) same (adds-6 fence c.add_immediate.result (branch z) c.load_immediate.result c.load_immediate-2.result instr.Ecall old _ _ _ _ _ _ c.in_ok-push.ensures c.in_ok-push-2.ensures c.in_ok-push-3.ensures c.in_ok-push-4.ensures c.in_ok-push-5.ensures last)) c.push-6.ensures

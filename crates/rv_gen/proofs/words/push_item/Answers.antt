@@ -2,7 +2,7 @@ use Rattle.std.proofs.Common.{◌≡◌, ℕ, Bool, if◌then◌else◌, List, [
 use Rattle.rv_base.specs.declared.instr.Instr.{Instr}
 use Rattle.rv_gen.specs.Words.{AddsPair}
 use Rattle.rv_gen.specs.Programs.{call_item, single_item, alone, item_of, item}
-use Rattle.rv_gen.proofs.Binds.{bind_is, on_ok, adds_pair}
+use Rattle.rv_gen.proofs.Binds.{binding, on-ok, adds-pair}
 use Rattle.rv_gen.proofs.words.push_item.Goals as goal
 
 abbrev chosen : ℕ → ℕ → Bool → List Instr × ℕ
@@ -13,8 +13,8 @@ unfolding item item_of
 returns-then-kind-eq15 c =
     let k = c.draw-kind.result in
     let s = c.draw-kind.new.self.state in
-    let is : call_item s ≡ item c.args.draws.now.state = bind_is _ _ _ _ _ _ c.draw-kind.ensures.drawn (sym (ap (chosen k s) (eq-eqb k 15 c.if-kind-eq15.true))) in
-    on_ok c.push_call.result (λ h. subst (λ (p : List Instr × ℕ). AddsPair p c.push_call.new.draws.state c.args.code.now.items c.push_call.new.code.items) is h) c.push_call.ensures
+    let is : call_item s ≡ item c.args.draws.now.state = binding _ _ _ _ _ _ c.draw-kind.ensures.drawn (sym (ap (chosen k s) (eq-eqb k 15 c.if-kind-eq15.true))) in
+    on-ok c.push_call.result (λ h. subst (λ (p : List Instr × ℕ). AddsPair p c.push_call.new.draws.state c.args.code.now.items c.push_call.new.code.items) is h) c.push_call.ensures
 
 pub returns-else-kind-eq15 : goal.returns-else-kind-eq15
 unfolding item item_of alone
@@ -22,6 +22,6 @@ returns-else-kind-eq15 c =
     let k = c.draw-kind.result in
     let s = c.draw-kind.new.self.state in
     let t = c.single_item.new.draws.state in
-    let one : (c.single_item.result ∷ [], t) ≡ alone (single_item k) s = bind_is _ _ _ _ _ _ c.single_item.ensures.drawn refl in
-    let is : (c.single_item.result ∷ [], t) ≡ item c.args.draws.now.state = bind_is _ _ _ _ _ _ c.draw-kind.ensures.drawn (one ∙ sym (ap (chosen k s) (ne_eqb k 15 c.if-kind-eq15.false))) in
-    on_ok c.push.result (λ h. adds_pair _ (c.single_item.result ∷ []) t c.args.code.now.items c.push.new.code.items is h) c.push.ensures
+    let one : (c.single_item.result ∷ [], t) ≡ alone (single_item k) s = binding _ _ _ _ _ _ c.single_item.ensures.drawn refl in
+    let is : (c.single_item.result ∷ [], t) ≡ item c.args.draws.now.state = binding _ _ _ _ _ _ c.draw-kind.ensures.drawn (one ∙ sym (ap (chosen k s) (ne_eqb k 15 c.if-kind-eq15.false))) in
+    on-ok c.push.result (λ h. adds-pair _ (c.single_item.result ∷ []) t c.args.code.now.items c.push.new.code.items is h) c.push.ensures

@@ -7,19 +7,19 @@ use Rattle.rv_mem.proofs.Lemmas.{last-snoc}
 use Rattle.rv_isa.proofs.look.last_of.Goals as goal
 use Rattle.rv_isa.proofs.look.last_of.Goals.{then-touch-cell, else-touch-cell}
 
-no_touch : Touch
-no_touch = record { slot = 0; cell = 0; new = 0 }
+no-touch : Touch
+no-touch = record { slot = 0; cell = 0; new = 0 }
 
 last-more : (ts : List Touch) (i c : ℕ) (d : Touch) → i < length ts → last_touch (take (i + 1) ts) c ≡ cond ((get_or ts i d).cell == c) (Some (get_or ts i d)) (last_touch (take i ts) c)
 last-more ts i c d h = ap (λ (l : List Touch). last_touch l c) (take_more ts i d h) ∙ last-snoc (take i ts) (get_or ts i d) c
 
 pub loop-touch-preserved : goal.loop-touch-preserved
-unfolding no_touch
+unfolding no-touch
 loop-touch-preserved c =
     let ts : List Touch = c.args.touches.now in
     let i : ℕ = c.loop-touch.touch-index in
-    let x : Touch = get_or ts i no_touch in
-    let more = last-more ts i c.args.cell no_touch c.loop-touch-test.true in
+    let x : Touch = get_or ts i no-touch in
+    let more = last-more ts i c.args.cell no-touch c.loop-touch-test.true in
     elim c.if-touch-cell.branch [
       | then-touch-cell w ↦ w.last-is ∙ sym (more ∙ ap (λ b. cond b (Some x) (last_touch (take i ts) c.args.cell)) (eq-eqb x.cell c.args.cell w.if-touch-cell.true))
       | else-touch-cell w ↦

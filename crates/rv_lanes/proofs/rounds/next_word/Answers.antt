@@ -1,5 +1,5 @@
 use Rattle.std.proofs.Common.{◌≡◌, ◌+◌, ◌%◌, arith, refl}
-use Rattle.rv_lanes.proofs.LaneLemmas.{word_there}
+use Rattle.rv_lanes.proofs.LaneLemmas.{word-there}
 use Rattle.rv_lanes.proofs.rounds.next_word.Goals as goal
 
 pub returns-clause-value : goal.returns-clause-value
@@ -13,9 +13,9 @@ returns-clause-value c = λ j h.
       c.add.ensures j h,
       c.small_sigma0.ensures j h,
       c.small_sigma1.ensures j h,
-      word_there j w ((p + 14) % 16),
-      word_there j w ((p + 9) % 16),
-      word_there j w ((p + 1) % 16),
-      word_there j w (p % 16),
+      word-there j w ((p + 14) % 16),
+      word-there j w ((p + 9) % 16),
+      word-there j w ((p + 1) % 16),
+      word-there j w (p % 16),
       at,
     ) refl

@@ -1,15 +1,15 @@
 use Rattle.std.proofs.Common.{IsNone, sym, ◌∙◌, subst, rules}
-use Rattle.rv_order.proofs.TupleOrder.{in_order_from_sorted}
+use Rattle.rv_order.proofs.TupleOrder.{in-order-from-sorted}
 use Rattle.rv_order.proofs.Differences.{count-kept, same-kept, differing-kept, not-same}
 use Rattle.rv_order.proofs.multiset.compare.Goals as goal
 
 pub first_difference-requires-clause-reads_in_order :
     goal.first_difference-requires-clause-reads_in_order
-first_difference-requires-clause-reads_in_order c = in_order_from_sorted c.sort_unstable.new.self c.sort_unstable.ensures.sorted
+first_difference-requires-clause-reads_in_order c = in-order-from-sorted c.sort_unstable.new.self c.sort_unstable.ensures.sorted
 
 pub first_difference-requires-clause-writes_in_order :
     goal.first_difference-requires-clause-writes_in_order
-first_difference-requires-clause-writes_in_order c = in_order_from_sorted c.sort_unstable-2.new.self c.sort_unstable-2.ensures.sorted
+first_difference-requires-clause-writes_in_order c = in-order-from-sorted c.sort_unstable-2.new.self c.sort_unstable-2.ensures.sorted
 
 pub returns-in_err-tuple-clause-same : goal.returns-in_err-tuple-clause-same
 returns-in_err-tuple-clause-same c = (

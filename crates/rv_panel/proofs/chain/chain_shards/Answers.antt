@@ -6,8 +6,8 @@ use Rattle.rv_book.specs.Journal.{piece_at}
 use Rattle.rv_judge.specs.Alone.{read_alone}
 use Rattle.rv_panel.specs.Pieces.{piece_of}
 use Rattle.rv_panel.specs.Chaining.{subject_of, verdict_from}
-use Rattle.rv_panel.proofs.StartLaws.{behind_zero}
-use Rattle.rv_panel.proofs.ChainLaws.{goes, piece_refuses, link_refuses, counted, counted_all, in_book, is_found, next_rest, digests_more}
+use Rattle.rv_panel.proofs.StartLaws.{behind-zero}
+use Rattle.rv_panel.proofs.ChainLaws.{goes, piece-refuses, link-refuses, counted, counted-all, in-book, is-found, next-rest, digests-more}
 use Rattle.rv_panel.proofs.chain.chain_shards.Goals as goal
 
 pub loop-i-init : goal.loop-i-init
@@ -16,7 +16,7 @@ loop-i-init g c =
     let n = c.args.header.now.shards in
     let all : n ≡ n - 0 = omega arith in
     record {
-      at = sym (behind_zero c.args.shards.now);
+      at = sym (behind-zero c.args.shards.now);
       within = λ found next. omega arith;
       stands = c.requires.first;
       events = (
@@ -37,7 +37,7 @@ returns-in_err-size g c =
     let es = c.loop-i.invariant.events.0 in
     rw (p.1, p.2)
     (counted lanes s _ n i c.loop-i.place es rest c.loop-i-test.true c.loop-i.invariant.events.2
-    ∙ link_refuses lanes s i c.loop-i.place rest c.in_err-size.field-0.0 c.in_err-size.ensures (n - (i + 1)) es)
+    ∙ link-refuses lanes s i c.loop-i.place rest c.in_err-size.field-0.0 c.in_err-size.ensures (n - (i + 1)) es)
 
 pub unreachable-requires : goal.unreachable-requires
 unreachable-requires g c =
@@ -47,8 +47,8 @@ unreachable-requires g c =
     let shards = c.args.shards.now in
     let at = c.loop-i.invariant.at in
     let there : 32 ≤ length (behind_shards i shards) = omega (arith, c.in_ok-size.ensures.0, ap length at) in
-    let lt = is_found shards i k.found c.args.header.now.shards (c.loop-i.invariant.within k.found k.next) c.loop-i-test.true there k.next in
-    let some = in_book g.L.Lanes.lanes s shards c.loop-i.rest.now i c.args.book.now k lt at in
+    let lt = is-found shards i k.found c.args.header.now.shards (c.loop-i.invariant.within k.found k.next) c.loop-i-test.true there k.next in
+    let some = in-book g.L.Lanes.lanes s shards c.loop-i.rest.now i c.args.book.now k lt at in
     let none : piece_at c.args.book.now i ≡ None = c.in_default.ensures in
     cc
 
@@ -63,12 +63,12 @@ returns-in-Some-fault g c =
     let rest = c.loop-i.rest.now in
     let inv = c.loop-i.invariant in
     let there : 32 ≤ length (behind_shards i shards) = omega (arith, c.in_ok-size.ensures.0, ap length inv.at) in
-    let lt = is_found shards i k.found n (inv.within k.found k.next) c.loop-i-test.true there k.next in
-    let some = in_book lanes s shards rest i c.args.book.now k lt inv.at in
+    let lt = is-found shards i k.found n (inv.within k.found k.next) c.loop-i-test.true there k.next in
+    let some = in-book lanes s shards rest i c.args.book.now k lt inv.at in
     let found : piece_at c.args.book.now i ≡ Some c.in-Some.piece.now = c.in-Some.ensures in
     let piece : c.in-Some.piece.now ≡ piece_of i (read_alone lanes s i rest) = cc in
     counted lanes s _ n i c.loop-i.place inv.events.0 rest c.loop-i-test.true inv.events.2
-    ∙ piece_refuses lanes s i c.loop-i.place rest c.in-Some.piece.now c.in-Some-fault.refusal
+    ∙ piece-refuses lanes s i c.loop-i.place rest c.in-Some.piece.now c.in-Some-fault.refusal
     (record { long = c.in_ok-size.ensures.0; same = c.in_ok-size.ensures.1; stands = inv.stands; piece_is = piece })
     c.in-Some-fault.is
     (n - (i + 1))
@@ -85,20 +85,20 @@ loop-i-preserved g c =
     let rest = c.loop-i.rest.now in
     let inv = c.loop-i.invariant in
     let there : 32 ≤ length (behind_shards i shards) = omega (arith, c.in_ok-size.ensures.0, ap length inv.at) in
-    let lt = is_found shards i k.found n (inv.within k.found k.next) c.loop-i-test.true there k.next in
-    let some = in_book lanes s shards rest i c.args.book.now k lt inv.at in
+    let lt = is-found shards i k.found n (inv.within k.found k.next) c.loop-i-test.true there k.next in
+    let some = in-book lanes s shards rest i c.args.book.now k lt inv.at in
     let found : piece_at c.args.book.now i ≡ Some c.in-Some.piece.now = c.in-Some.ensures in
     let piece : c.in-Some.piece.now ≡ piece_of i (read_alone lanes s i rest) = cc in
     let on = goes lanes s i c.loop-i.place rest c.in-Some.piece.now (record { long = c.in_ok-size.ensures.0; same = c.in_ok-size.ensures.1; stands = inv.stands; piece_is = piece }) c.in_default-fault.is in
     let es = inv.events.0 in
-    let next = next_rest shards rest c.behind-rest.result.now i c.in_ok-size.size c.behind-rest.ensures c.in_ok-size.ensures.2 inv.at in
+    let next = next-rest shards rest c.behind-rest.result.now i c.in_ok-size.size c.behind-rest.ensures c.in_ok-size.ensures.2 inv.at in
     record {
       at = next.1;
-      within = λ found short. let above = is_found shards i found n (inv.within found short) c.loop-i-test.true there short in omega (arith, above);
+      within = λ found short. let above = is-found shards i found n (inv.within found short) c.loop-i-test.true there short in omega (arith, above);
       stands = on.stands;
       events = (
         es ++ on.events,
-        digests_more lanes es on.events c.add.new.self.lanes c.add-in-loop-i.new.self.lanes
+        digests-more lanes es on.events c.add.new.self.lanes c.add-in-loop-i.new.self.lanes
             (c.add.ensures.of_list lanes (map tuple_read es) (map tuple_read on.events) inv.events.1.reads_are on.digests.reads_are)
             (c.add-in-loop-i.ensures.of_list lanes (map tuple_written es) (map tuple_written on.events) inv.events.1.writes_are on.digests.writes_are),
         counted lanes s _ n i c.loop-i.place es rest c.loop-i-test.true inv.events.2
@@ -114,6 +114,6 @@ returns g c =
       es.0,
       record {
         digests = es.1;
-        verdict = counted_all g.L.Lanes.lanes s _ c.args.header.now.shards c.loop-i.i c.loop-i.place es.0 c.loop-i.rest.now c.loop-i-test.false c.loop-i.auto.i-end es.2;
+        verdict = counted-all g.L.Lanes.lanes s _ c.args.header.now.shards c.loop-i.i c.loop-i.place es.0 c.loop-i.rest.now c.loop-i-test.false c.loop-i.auto.i-end es.2;
       },
     )

@@ -2,13 +2,13 @@ use Rattle.std.proofs.Common.{◌≡◌, List, ℕ, ◌+◌, ◌∷◌, [], leng
 use Rattle.std.proofs.lemmas.List.{length-append, drop-drop}
 use Rattle.rv_base.specs.declared.record.ShardHead.{ShardHead}
 use Rattle.rv_file.specs.Parsing.{shard_size}
-use Rattle.rv_panel.proofs.StartLaws.{behind_more, behind_zero, starts_more}
+use Rattle.rv_panel.proofs.StartLaws.{behind-more, behind-zero, starts-more}
 use Rattle.rv_panel.proofs.starts.find_starts.Goals as goal
 
 pub loop-init : goal.loop-init
 loop-init c = record {
   count = ap length c.new-starts.ensures.items;
-  at = sym (behind_zero c.args.bytes.now);
+  at = sym (behind-zero c.args.bytes.now);
   suffix = (0, refl);
   each = λ i lt. absurd (omega (arith, lt));
 }
@@ -24,10 +24,10 @@ loop-preserved c =
           c.behind-rest.ensures
           ∙ ap (λ n. drop n rest) size
           ∙ ap (λ (xs : List ℕ). drop (shard_size xs) xs) c.loop.invariant.at
-          ∙ sym (behind_more c.loop.counter bytes);
+          ∙ sym (behind-more c.loop.counter bytes);
       suffix = (
         c.loop.invariant.suffix.0 + c.shard_size.result,
         c.behind-rest.ensures ∙ ap (λ (xs : List ℕ). drop c.shard_size.result xs) c.loop.invariant.suffix.1 ∙ drop-drop c.shard_size.result c.loop.invariant.suffix.0 bytes,
       );
-      each = starts_more bytes rest c.loop.starts.items c.push.new.self.items c.loop.counter c.loop.invariant.suffix.0 c.in_ok-push.ensures.items c.loop.invariant.count c.loop.invariant.suffix.1 c.loop.invariant.at c.loop.invariant.each;
+      each = starts-more bytes rest c.loop.starts.items c.push.new.self.items c.loop.counter c.loop.invariant.suffix.0 c.in_ok-push.ensures.items c.loop.invariant.count c.loop.invariant.suffix.1 c.loop.invariant.at c.loop.invariant.each;
     }

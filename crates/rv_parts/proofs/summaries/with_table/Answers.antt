@@ -1,7 +1,7 @@
 use Rattle.std.proofs.Common.{Some, None, length, refl}
 use Rattle.std.specs.Prelude.{nat_lt}
 use Rattle.rv_parts.specs.declared.summaries.Summary.{Summary}
-use Rattle.rv_parts.proofs.SummaryLaws.{table_added, table_refused}
+use Rattle.rv_parts.proofs.SummaryLaws.{table-added, table-refused}
 use Rattle.rv_parts.proofs.summaries.with_table.Goals as goal
 
 pub returns-in-Err-clause-table : goal.returns-in-Err-clause-table
@@ -18,7 +18,7 @@ returns-in-Err-clause-table g c =
       trailing = old.trailing;
       refusal = Some c.in-Err.refusal;
     } in
-    table_refused g.L.Lanes.lanes c.args.program.now.elf c.args.header.now old new c.args.bytes.now c.in-Err.refusal c.in-Err.ensures refl
+    table-refused g.L.Lanes.lanes c.args.program.now.elf c.args.header.now old new c.args.bytes.now c.in-Err.refusal c.in-Err.ensures refl
 
 pub returns-clause-table : goal.returns-clause-table
 returns-clause-table g c =
@@ -35,7 +35,7 @@ returns-clause-table g c =
       trailing = nat_lt table.used (length c.args.bytes.now);
       refusal = None;
     } in
-    table_added g.L.Lanes.lanes c.args.program.now.elf c.args.header.now old new c.args.bytes.now table c.in-Ok.ensures
+    table-added g.L.Lanes.lanes c.args.program.now.elf c.args.header.now old new c.args.bytes.now table c.in-Ok.ensures
     (λ read ts. c.add.ensures.of_list g.L.Lanes.lanes read ts)
     (λ written ts. c.add-2.ensures.of_list g.L.Lanes.lanes written ts)
     refl refl refl refl

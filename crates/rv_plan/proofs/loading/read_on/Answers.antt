@@ -1,6 +1,6 @@
-use Rattle.std.proofs.Common.{◌≡◌, ◌≢◌, ◌+◌, ◌≤◌, ◌++◌, length, take, [], refl, sym, ◌∙◌, ap, append-nil, append_assoc, arith}
+use Rattle.std.proofs.Common.{◌≡◌, ◌≢◌, ◌≤◌, ◌++◌, length, take, [], refl, sym, ◌∙◌, ap, append-nil, append_assoc, arith}
 use Rattle.std.proofs.lemmas.List.{length-take}
-use Rattle.rv_plan.proofs.Fronts.{front_more, front_whole, front_filled}
+use Rattle.rv_plan.proofs.Fronts.{front-more, front-whole, front-filled}
 use Rattle.rv_host.specs.Files.{file}
 use Rattle.rv_plan.proofs.loading.read_on.Goals as goal
 
@@ -33,7 +33,7 @@ returns-then-taken-eq0 g c =
       },
       c.loop-bytes.invariant.room,
       c.loop-bytes.invariant.more,
-      λ told is begun. front_whole _ _ c.args.name.now c.loop-bytes.bytes.items _ _ _ _ c.args.most c.loop-bytes.invariant.files place c.if-taken-eq0.true room c.loop-bytes.invariant.room c.in-Ok-read_at.ensures.bytes told is (c.loop-bytes.invariant.front told is begun),
+      λ told is begun. front-whole _ _ c.args.name.now c.loop-bytes.bytes.items _ _ _ _ c.args.most c.loop-bytes.invariant.files place c.if-taken-eq0.true room c.loop-bytes.invariant.room c.in-Ok-read_at.ensures.bytes told is (c.loop-bytes.invariant.front told is begun),
     )
 
 pub returns-in_default-extend_from_slice : goal.returns-in_default-extend_from_slice
@@ -57,7 +57,7 @@ loop-bytes-preserved g c =
             ∙ append_assoc c.args.bytes.now.items c.loop-bytes.invariant.more.0 (take c.in-Ok-read_at.taken c.read_at.new.into),
       );
       front = λ told is begun. rw c.in-Ok-extend_from_slice.ensures.items
-          (front_more _ _ c.args.name.now c.loop-bytes.bytes.items c.read_at.new.into _ _ c.in-Ok-read_at.taken c.loop-bytes.invariant.files place fits c.in-Ok-read_at.ensures.bytes told is (c.loop-bytes.invariant.front told is begun));
+          (front-more _ _ c.args.name.now c.loop-bytes.bytes.items c.read_at.new.into _ _ c.in-Ok-read_at.taken c.loop-bytes.invariant.files place fits c.in-Ok-read_at.ensures.bytes told is (c.loop-bytes.invariant.front told is begun));
     }
 
 pub returns : goal.returns
@@ -65,5 +65,5 @@ returns g c = (
   record { files = c.loop-bytes.invariant.files; reads = c.loop-bytes.invariant.reads; writes = c.loop-bytes.invariant.writes },
   c.loop-bytes.invariant.room,
   c.loop-bytes.invariant.more,
-  λ told is begun. front_filled (file told c.args.name.now) c.loop-bytes.bytes.items c.args.most (omega (arith, c.loop-bytes.bytes.ok.0, c.loop-bytes.invariant.room, c.loop-bytes-test.false, c.len.ensures)) (c.loop-bytes.invariant.front told is begun),
+  λ told is begun. front-filled (file told c.args.name.now) c.loop-bytes.bytes.items c.args.most (omega (arith, c.loop-bytes.bytes.ok.0, c.loop-bytes.invariant.room, c.loop-bytes-test.false, c.len.ensures)) (c.loop-bytes.invariant.front told is begun),
 )

@@ -1,6 +1,6 @@
 use Rattle.std.proofs.Common.{◌≡◌, ◌≤◌, [], List, ℕ, length, take, refl, subst, arith}
 use Rattle.rv_host.specs.Files.{file}
-use Rattle.rv_plan.proofs.Plans.{contents_above, contents_within}
+use Rattle.rv_plan.proofs.Plans.{contents-above, contents-within}
 use Rattle.rv_plan.proofs.loading.read_within.Goals as goal
 
 -- nothing was read before
@@ -13,7 +13,7 @@ returns-then-len-limit g c =
     let size : c.len.result ≡ length c.read_on.new.bytes.items = omega (arith, c.len.ensures, c.read_on.new.bytes.ok.0) in (
       read.0,
       refl,
-      contents_above (g.S.Shelf.view c.args.shelf.now).files c.args.name.now c.read_on.new.bytes.items c.args.limit c.len.result size c.if-len-limit.true
+      contents-above (g.S.Shelf.view c.args.shelf.now).files c.args.name.now c.read_on.new.bytes.items c.args.limit c.len.result size c.if-len-limit.true
           (λ told is. read.3 told is (nothing c.new-bytes.result.items (file told c.args.name.now) c.new-bytes.ensures.items)),
     )
 
@@ -24,6 +24,6 @@ returns g c =
     rw c.of.ensures (
       read.0,
       subst (λ n. n ≤ c.args.limit) size c.if-len-limit.false,
-      contents_within (g.S.Shelf.view c.args.shelf.now).files c.args.name.now c.read_on.new.bytes.items c.args.limit c.len.result size c.if-len-limit.false
+      contents-within (g.S.Shelf.view c.args.shelf.now).files c.args.name.now c.read_on.new.bytes.items c.args.limit c.len.result size c.if-len-limit.false
           (λ told is. read.3 told is (nothing c.new-bytes.result.items (file told c.args.name.now) c.new-bytes.ensures.items)),
     )

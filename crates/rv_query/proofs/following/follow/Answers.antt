@@ -3,7 +3,7 @@ use Rattle.std.specs.List.{flat_map, AllByRecursion}
 use Rattle.rv_base.specs.declared.record.Header.{Header}
 use Rattle.rv_spec.specs.Record.{Parts, Shard, all_rows, shard_bytes, table_bytes}
 use Rattle.rv_spec.specs.Grammar.{PartsFit, RowFits}
-use Rattle.rv_text.proofs.Lemmas.{rows_in, BeginsWith, next_shard, behind}
+use Rattle.rv_text.proofs.Lemmas.{rows_in, BeginsWith, next-shard, behind}
 use Rattle.rv_query.specs.Accesses.{numbered}
 use Rattle.rv_query.specs.Following.{BehindRows, BeginWithRow, GoPast}
 use Rattle.rv_query.specs.declared.trail.Trail.{Trail}
@@ -22,14 +22,14 @@ before : (p : Parts) (h : Header) (until i : ℕ) (rest : List ℕ) → PartsFit
     → (i < until / p.header.size) × ((s : Shard) × BeginsWith p i rest s)
 before p h until i rest fit there same lt left =
     let less : i < until / p.header.size = subst (λ (k : Header). i < until / k.size) same lt in
-    (less, next_shard p i rest fit (omega (arith, less, shard-there p fit until there)) left)
+    (less, next-shard p i rest fit (omega (arith, less, shard-there p fit until there)) left)
 
 -- the shard of the step, at the front of the bytes behind the loop
 last : (p : Parts) (h : Header) (until i : ℕ) (rest : List ℕ) → PartsFit p → until < p.header.steps → h ≡ p.header → i ≡ until / h.size → rest ≡ flat_map shard_bytes (drop i p.shards) ++ table_bytes p.table
     → (i ≡ until / p.header.size) × ((s : Shard) × BeginsWith p (until / p.header.size) rest s)
 last p h until i rest fit there same end left =
     let is : i ≡ until / p.header.size = end ∙ ap (λ (k : Header). until / k.size) same in
-    (is, next_shard p (until / p.header.size) rest fit (shard-there p fit until there) (subst (λ k. rest ≡ flat_map shard_bytes (drop k p.shards) ++ table_bytes p.table) is left))
+    (is, next-shard p (until / p.header.size) rest fit (shard-there p fit until there) (subst (λ k. rest ≡ flat_map shard_bytes (drop k p.shards) ++ table_bytes p.table) is left))
 
 pub follow_shard-requires-clause-head : goal.follow_shard-requires-clause-head
 follow_shard-requires-clause-head c =

@@ -6,7 +6,7 @@ use Rattle.rv_query.specs.Accesses.{numbered}
 use Rattle.rv_query.specs.Following.{GoPast}
 use Rattle.rv_spec.specs.Record.{row_length}
 use Rattle.rv_row.specs.RowReading.{row_view}
-use Rattle.rv_text.proofs.Lemmas.{take_rest, not_row, row_there}
+use Rattle.rv_text.proofs.Lemmas.{take-rest, not-row, row-there}
 use Rattle.rv_query.proofs.Trails.{past-none}
 use Rattle.rv_query.proofs.Rows.{past-row}
 use Rattle.rv_query.proofs.following.follow_rows.Goals as goal
@@ -17,8 +17,8 @@ loop-row-init c rs tail fit most is = (is, past-none c.args.first c.args.until c
 pub returns-in_default : goal.returns-in_default
 returns-in_default c rs tail fit most is =
     let known = c.loop-row.invariant rs tail fit most is in
-    let there = row_there c.loop-row.row rs tail c.loop-row.rest.now fit (omega (arith, most, c.loop-row-test.true)) known.0 in
-    absurd (not_row c.read_row.result there.0 (row_length there.0) c.in_default.not-Row (c.read_row.ensures.only there.0 there.1 there.2 there.3))
+    let there = row-there c.loop-row.row rs tail c.loop-row.rest.now fit (omega (arith, most, c.loop-row-test.true)) known.0 in
+    absurd (not-row c.read_row.result there.0 (row_length there.0) c.in_default.not-Row (c.read_row.ensures.only there.0 there.1 there.2 there.3))
 
 pub loop-row-preserved : goal.loop-row-preserved
 loop-row-preserved c rs tail fit most is =
@@ -27,7 +27,7 @@ loop-row-preserved c rs tail fit most is =
     past-row c.args.first c.args.until c.args.step c.loop-row.row c.in-Row.length rs tail c.loop-row.rest.now (row_view c.in-Row.read) c.args.trails.now c.loop-row.trails c.pass_row.new.trails
     fit (omega (arith, most, c.loop-row-test.true)) known.0 known.1 (λ x more fits begins. c.in-Row.ensures.only x more fits begins)
     (subst (λ (l : List Access). GoPast c.args.first c.args.until c.loop-row.trails c.pass_row.new.trails (map (λ a. record { step = c.args.step + c.loop-row.row; access = a }) l)) c.as_slice.ensures.value c.pass_row.ensures) in
-    (take_rest c.in-Row.length c.loop-row.rest.now ∙ stepped.0, stepped.1)
+    (take-rest c.in-Row.length c.loop-row.rest.now ∙ stepped.0, stepped.1)
 
 pub returns : goal.returns
 returns c rs tail fit most is =

@@ -11,7 +11,7 @@ loop-access-preserved-then-slot-le-SLOTS c =
     let values : List ℕ = c.loop-access.old in
     let rest : List Access = iter_rest (rev_source c.next.new.self) in
     record {
-      all_slots = length-set values c.from-slot.result c.in-Some.access.now.old ∙ c.loop-access.invariant.all_slots;
+      all-slots = length-set values c.from-slot.result c.in-Some.access.now.old ∙ c.loop-access.invariant.all-slots;
       first = λ slot most. old_in_or-written values rest c.in-Some.access.now slot c.from-slot.result c.from-slot.ensures (omega arith)
           ∙ ap (λ (accesses : List Access). old_in_or (slice_index values slot) accesses slot) (sym c.in-Some.ensures.steps)
           ∙ c.loop-access.invariant.first slot most;
@@ -22,7 +22,7 @@ loop-access-preserved c =
     let values : List ℕ = c.loop-access.old in
     let rest : List Access = iter_rest (rev_source c.next.new.self) in
     record {
-      all_slots = c.loop-access.invariant.all_slots;
+      all-slots = c.loop-access.invariant.all-slots;
       first = λ slot most. old_in_or-other values rest c.in-Some.access.now slot (λ e. omega arith)
           ∙ ap (λ (accesses : List Access). old_in_or (slice_index values slot) accesses slot) (sym c.in-Some.ensures.steps)
           ∙ c.loop-access.invariant.first slot most;

@@ -9,6 +9,6 @@ use Rattle.rv_rowcheck.proofs.seeing.old_values.Given as goal
 -- the accesses that are left decide; where none of them is in a slot, what was found there
 abbrev pub invariant-loop-access : goal.invariant-loop-access
 invariant-loop-access l = record {
-  all_slots : length l.old ≡ SLOTS + 1;
+  all-slots : length l.old ≡ SLOTS + 1;
   first : (slot : ℕ) → slot ≤ SLOTS → old_in_or (slice_index l.old slot) (iter_rest (rev_source l.access-iterator)) slot ≡ old_in l.accesses slot;
 }

@@ -1,7 +1,7 @@
 use Rattle.std.proofs.Common.{sym, ◌∙◌, arith}
 use Rattle.rv_rules.specs.Verdict.{judge}
 use Rattle.rv_rules.proofs.Lemmas.{bytes-are}
-use Rattle.rv_settle.proofs.Concluding.{accepted, concluded, decided_of}
+use Rattle.rv_settle.proofs.Concluding.{accepted, concluded, decided-of}
 use Rattle.rv_settle.proofs.settling.settle_verdict.Goals as goal
 
 pub unreachable-requires : goal.unreachable-requires
@@ -33,4 +33,4 @@ returns g c =
       reads = c.reading.ensures lanes elf input;
       sound = c.soundness.ensures lanes elf input file a.0;
     })
-    (decided_of elf c.in-Ok.parsed a.0 c.in_ok-tuples.tuples.reads.items c.in_ok-tuples.tuples.writes.items c.in-Accept.steps c.decide.result (c.in-Ok.ensures.only a.0 spelled) c.in_ok-tuples.ensures.reads c.in_ok-tuples.ensures.writes c.decide.ensures)
+    (decided-of elf c.in-Ok.parsed a.0 c.in_ok-tuples.tuples.reads.items c.in_ok-tuples.tuples.writes.items c.in-Accept.steps c.decide.result (c.in-Ok.ensures.only a.0 spelled) c.in_ok-tuples.ensures.reads c.in_ok-tuples.ensures.writes c.decide.ensures)

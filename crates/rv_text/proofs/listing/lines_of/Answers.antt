@@ -4,14 +4,14 @@ use Rattle.rv_base.specs.declared.record.Header.{Header}
 use Rattle.rv_spec.specs.Grammar.{PartsFit, ShardFits}
 use Rattle.rv_spec.specs.Record.{Parts, Shard, shard_bytes}
 use Rattle.rv_text.specs.Within.{lines_within}
-use Rattle.rv_text.proofs.Shards.{BeginsWith, next_shard, behind}
-use Rattle.rv_text.proofs.ShardSteps.{nothing_listed, shard_step, last_listed, all_within}
+use Rattle.rv_text.proofs.Shards.{BeginsWith, next-shard, behind}
+use Rattle.rv_text.proofs.ShardSteps.{nothing-listed, shard-step, last-listed, all-within}
 use Rattle.rv_text.proofs.listing.lines_of.Goals as goal
 
 pub returns-then-from-header : goal.returns-then-from-header
 returns-then-from-header c =
     let past : c.args.parsed.now.header.steps ≤ c.args.from = omega (arith, c.if-from-header.true, ap (λ (h : Header). h.steps) c.header-header.ensures) in
-    c.new-text.ensures.bytes ∙ sym (nothing_listed c.args.parsed.now c.body-rest.ensures.fit c.args.from c.args.count past)
+    c.new-text.ensures.bytes ∙ sym (nothing-listed c.args.parsed.now c.body-rest.ensures.fit c.args.from c.args.count past)
 
 pub loop-i-init : goal.loop-i-init
 unfolding lines_within
@@ -28,14 +28,14 @@ pub push_shard-requires-clause-head : goal.push_shard-requires-clause-head
 push_shard-requires-clause-head c =
     let fit = c.body-rest.ensures.fit in
     let lt = there c.args.parsed.now c.header-header.result c.loop-i.i _ c.min-shards.result fit c.header-header.ensures c.min-shards.ensures c.loop-i-test.true in
-    let room = (next_shard c.args.parsed.now c.loop-i.i c.loop-i.rest.now fit lt c.loop-i.invariant.left).1.room in
+    let room = (next-shard c.args.parsed.now c.loop-i.i c.loop-i.rest.now fit lt c.loop-i.invariant.left).1.room in
     omega (arith, room)
 
 pub behind_shard-rest-requires : goal.behind_shard-rest-requires
 behind_shard-rest-requires c =
     let fit = c.body-rest.ensures.fit in
     let lt = there c.args.parsed.now c.header-header.result c.loop-i.i _ c.min-shards.result fit c.header-header.ensures c.min-shards.ensures c.loop-i-test.true in
-    (next_shard c.args.parsed.now c.loop-i.i c.loop-i.rest.now fit lt c.loop-i.invariant.left).1.room
+    (next-shard c.args.parsed.now c.loop-i.i c.loop-i.rest.now fit lt c.loop-i.invariant.left).1.room
 
 -- what was written for a shard, by the header that was shown
 put : (p : Parts) (h : Header) (from until i : ℕ) (rest text text' : List ℕ) (s : Shard) → h ≡ p.header → BeginsWith p i rest s
@@ -55,10 +55,10 @@ loop-i-preserved c =
     let until = c.args.from + c.args.count in
     let fit = c.body-rest.ensures.fit in
     let lt = there p h i _ c.min-shards.result fit c.header-header.ensures c.min-shards.ensures c.loop-i-test.true in
-    let next = next_shard p i rest fit lt c.loop-i.invariant.left in
+    let next = next-shard p i rest fit lt c.loop-i.invariant.left in
     record {
       written =
-          shard_step p fit c.args.from until i rest text after next.0 lt next.1 c.loop-i.invariant.written
+          shard-step p fit c.args.from until i rest text after next.0 lt next.1 c.loop-i.invariant.written
           (put p h c.args.from until i rest text after next.0 c.header-header.ensures next.1 c.in_ok-push_shard.ensures);
       left = c.behind_shard-rest.ensures ∙ next.1.next;
     }
@@ -68,4 +68,4 @@ returns c =
     let p = c.args.parsed.now in
     let until = c.args.from + c.args.count in
     let last = c.min-shards.ensures ∙ ap (λ n. min n c.header-header.result.shards) c.div_ceil.ensures ∙ ap (λ (h : Header). min (div_ceil until h.size) h.shards) c.header-header.ensures in
-    c.loop-i.invariant.written ∙ last_listed p c.body-rest.ensures.fit c.args.from until c.loop-i.i (omega (arith, last, c.loop-i-test.false)) ∙ all_within p c.args.from c.args.count
+    c.loop-i.invariant.written ∙ last-listed p c.body-rest.ensures.fit c.args.from until c.loop-i.i (omega (arith, last, c.loop-i-test.false)) ∙ all-within p c.args.from c.args.count

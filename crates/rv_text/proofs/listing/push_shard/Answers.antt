@@ -1,7 +1,7 @@
 use Rattle.std.proofs.Common.{◌≡◌, ◌*◌, ◌++◌, length, string_bytes, drop, sym, ap, ◌∙◌, arith}
 use Rattle.std.proofs.lemmas.List.{append-nil}
-use Rattle.rv_text.proofs.RowSteps.{take_rest}
-use Rattle.rv_text.proofs.Shards.{digests, rows_behind_head}
+use Rattle.rv_text.proofs.RowSteps.{take-rest}
+use Rattle.rv_text.proofs.Shards.{digests, rows-behind-head}
 use Rattle.rv_text.proofs.Within.{within-before}
 use Rattle.rv_text.proofs.listing.push_shard.Goals as goal
 
@@ -13,4 +13,4 @@ returns-then-first-rows c s tail fits is =
 pub returns : goal.returns
 returns c s tail fits is =
     let count : length s.rows ≡ c.rows_of-rows.result = fits.count ∙ fits.rows ∙ sym c.rows_of-rows.ensures in
-    c.push_rows.ensures s.rows (digests s ++ tail) fits.each count (take_rest 32 c.args.bytes.now ∙ ap (drop 32) is ∙ rows_behind_head s tail)
+    c.push_rows.ensures s.rows (digests s ++ tail) fits.each count (take-rest 32 c.args.bytes.now ∙ ap (drop 32) is ∙ rows-behind-head s tail)

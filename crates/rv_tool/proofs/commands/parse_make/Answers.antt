@@ -2,14 +2,14 @@ use Rattle.std.proofs.Common.{map, Global, string_bytes, arith, sym, ◌∙◌, 
 use Rattle.std.proofs.lemmas.List.{length-map}
 use borrow.Author.Tests.{ltb-true, ltb-false}
 use Rattle.rv_tool.specs.CommandLine.{number}
-use Rattle.rv_tool.proofs.Arguments.{six, not_six, misspelled}
+use Rattle.rv_tool.proofs.Arguments.{six, not-six, misspelled}
 use Rattle.rv_tool.proofs.commands.parse_make.Goals as goal
 use Rattle.rv_tool.proofs.commands.parse_make.Goals.{in_default-via-then-arguments-lt6, in_default-via-else-arguments-lt6+else-arguments-lt7}
 
 pub returns-in_default : goal.returns-in_default
 returns-in_default c = elim c.in_default.branch [
-  | in_default-via-then-arguments-lt6 w ↦ record { command = not_six c.args.version (map string_bytes c.args.arguments.now) (λ e. absurd (omega (arith, ltb-true, ltb-false, e, length-map c.args.arguments.now (string_bytes {Z = Global})))); ranges = tt }
-  | in_default-via-else-arguments-lt6+else-arguments-lt7 w ↦ record { command = not_six c.args.version (map string_bytes c.args.arguments.now) (λ e. absurd (omega (arith, ltb-true, ltb-false, e, length-map c.args.arguments.now (string_bytes {Z = Global})))); ranges = tt }
+  | in_default-via-then-arguments-lt6 w ↦ record { command = not-six c.args.version (map string_bytes c.args.arguments.now) (λ e. absurd (omega (arith, ltb-true, ltb-false, e, length-map c.args.arguments.now (string_bytes {Z = Global})))); ranges = tt }
+  | in_default-via-else-arguments-lt6+else-arguments-lt7 w ↦ record { command = not-six c.args.version (map string_bytes c.args.arguments.now) (λ e. absurd (omega (arith, ltb-true, ltb-false, e, length-map c.args.arguments.now (string_bytes {Z = Global})))); ranges = tt }
 ]
 
 pub returns-in_err-workers : goal.returns-in_err-workers

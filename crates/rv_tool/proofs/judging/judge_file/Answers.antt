@@ -3,7 +3,7 @@ use Rattle.rv_spec.specs.Digest.{sha_lanes}
 use Rattle.rv_rules.specs.Verdict.{verdict}
 use Rattle.rv_judge.specs.Conclusions.{IsSound}
 use Rattle.rv_judge.specs.Held.{IsWholeFront}
-use Rattle.rv_tool.proofs.Judged.{contents_of, untrue}
+use Rattle.rv_tool.proofs.Judged.{contents-of, untrue}
 use Rattle.rv_tool.proofs.judging.judge_file.Goals as goal
 
 pub returns : goal.returns
@@ -14,7 +14,7 @@ returns g c =
       read.0,
       (
         front,
-        contents_of (g.S.Shelf.view c.args.shelf.now) c.args.name.now front (read.2 not_whole),
+        contents-of (g.S.Shelf.view c.args.shelf.now) c.args.name.now front (read.2 not_whole),
         c.judge.ensures.verdict ∙ ap (verdict sha_lanes c.args.program.now.elf c.args.program.now.input) c.as_slice-else-is_whole.ensures.value,
         subst (λ file. IsSound sha_lanes c.args.program.now.elf c.args.program.now.input file c.judge.result) c.as_slice-else-is_whole.ensures.value c.judge.ensures.sound,
       ),

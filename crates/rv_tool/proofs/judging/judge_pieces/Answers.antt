@@ -1,7 +1,7 @@
 use Rattle.std.proofs.Common.{◌≢◌, ◌≤◌, ◌++◌, [], not, refl, ap, ◌∙◌, arith, length, take}
 use Rattle.std.proofs.lemmas.List.{length-take-le}
-use Rattle.rv_plan.proofs.Lemmas.{front_more}
-use Rattle.rv_tool.proofs.Judged.{all_read, begun, concluded, decided, fed_more, some_of}
+use Rattle.rv_plan.proofs.Lemmas.{front-more}
+use Rattle.rv_tool.proofs.Judged.{all-read, begun, concluded, decided, fed-more, some-of}
 use Rattle.rv_tool.proofs.judging.judge_pieces.Goals as goal
 
 pub loop-piece-init : goal.loop-piece-init
@@ -30,7 +30,7 @@ returns-then-taken-eq0 g c =
       },
       concluded (g.S.Shelf.view c.args.shelf.now) c.args.name.now c.args.program.now.elf c.args.program.now.input c.args.front.now c.loop-piece.at c.loop-piece.judge fed.0 c.finish.result fed.1 c.verdicts_conclude.ensures.sound c.requires.faultless c.requires.elf c.requires.input
           c.requires.front c.finish.ensures.verdict
-          (all_read _ _ c.args.name.now (c.args.front.now ++ fed.0) _ _ c.loop-piece.at _ c.loop-piece.invariant.files fed.1.place c.if-taken-eq0.true room fed.1.first c.in-Ok-read_at.ensures.bytes),
+          (all-read _ _ c.args.name.now (c.args.front.now ++ fed.0) _ _ c.loop-piece.at _ c.loop-piece.invariant.files fed.1.place c.if-taken-eq0.true room fed.1.first c.in-Ok-read_at.ensures.bytes),
     )
 
 pub returns-in_default-checked_add : goal.returns-in_default-checked_add
@@ -49,16 +49,16 @@ loop-piece-preserved g c =
       writes = λ any. c.read_at.ensures.writes any ∙ c.loop-piece.invariant.writes any;
       fed = (
         fed.0 ++ take c.in-Ok-read_at.taken c.read_at.new.into,
-        fed_more (g.S.Shelf.view c.args.shelf.now) c.args.name.now c.args.program.now.elf c.args.program.now.input c.args.front.now c.loop-piece.at c.in-Some.next c.loop-piece.judge c.feed.new.judge fed.0 (take c.in-Ok-read_at.taken c.read_at.new.into) fed.1 c.feed.ensures.bytes
+        fed-more (g.S.Shelf.view c.args.shelf.now) c.args.name.now c.args.program.now.elf c.args.program.now.input c.args.front.now c.loop-piece.at c.in-Some.next c.loop-piece.judge c.feed.new.judge fed.0 (take c.in-Ok-read_at.taken c.read_at.new.into) fed.1 c.feed.ensures.bytes
             (omega (arith, c.in-Some.ensures, length-take-le c.in-Ok-read_at.taken c.read_at.new.into fits)) c.feed.ensures.comes
-            (λ told is. front_more _ _ c.args.name.now (c.args.front.now ++ fed.0) c.read_at.new.into _ c.loop-piece.at c.in-Ok-read_at.taken c.loop-piece.invariant.files fed.1.place fits c.in-Ok-read_at.ensures.bytes told is (fed.1.first told is)),
+            (λ told is. front-more _ _ c.args.name.now (c.args.front.now ++ fed.0) c.read_at.new.into _ c.loop-piece.at c.in-Ok-read_at.taken c.loop-piece.invariant.files fed.1.place fits c.in-Ok-read_at.ensures.bytes told is (fed.1.first told is)),
       );
     }
 
 pub returns : goal.returns
 returns g c =
     let fed = c.loop-piece.invariant.fed in
-    let stays = some_of c.refused.result _ (c.is_none.ensures ∙ ap not c.loop-piece-test.false) c.refused.ensures.stays in (
+    let stays = some-of c.refused.result _ (c.is_none.ensures ∙ ap not c.loop-piece-test.false) c.refused.ensures.stays in (
       record { files = c.loop-piece.invariant.files; reads = c.loop-piece.invariant.reads; writes = c.loop-piece.invariant.writes },
       decided (g.S.Shelf.view c.args.shelf.now) c.args.name.now c.args.program.now.elf c.args.program.now.input c.args.front.now c.loop-piece.at c.loop-piece.judge fed.0 c.finish-2.result stays.0 fed.1 stays.1.1 c.finish-2.ensures.verdict,
     )

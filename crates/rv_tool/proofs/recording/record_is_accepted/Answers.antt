@@ -25,3 +25,9 @@ returns-clause-accepted c =
     let elf_bytes : AreBytes c.args.elf.now = bytes-are c.args.elf.now (λ i. omega (arith, c.type_inv.elf i)) in
     let input_bytes : AreBytes c.args.input.now = bytes-are c.args.input.now (λ i. omega (arith, c.type_inv.input i)) in
     c.verdicts_conclude.ensures.accepts _ c.args.elf.now c.args.input.now _ elf_bytes input_bytes c.args.version c.args.size c.args.points.now.steps c.args.points.now.end (returns-clause-has c) refl
+
+pub returns-clause-short : goal.returns-clause-short
+returns-clause-short c =
+    let elf_bytes : AreBytes c.args.elf.now = bytes-are c.args.elf.now (λ i. omega (arith, c.type_inv.elf i)) in
+    let input_bytes : AreBytes c.args.input.now = bytes-are c.args.input.now (λ i. omega (arith, c.type_inv.input i)) in
+    c.record_lengths.ensures.limit _ c.args.version c.args.elf.now c.args.input.now c.args.size c.args.points.now.steps c.args.points.now.end elf_bytes input_bytes c.requires.faultless (omega (arith, c.requires.survey.within, c.requires.budget)) c.requires.survey.few

@@ -1,17 +1,17 @@
 use Rattle.std.proofs.Common.{refl}
-use Rattle.rv_plan.proofs.Lemmas.{handed_on}
+use Rattle.rv_plan.proofs.Lemmas.{handed-on}
 use Rattle.rv_tool.specs.Commands.{make_words}
-use Rattle.rv_tool.proofs.Making.{record_torn, record_written, text_is}
+use Rattle.rv_tool.proofs.Making.{record-torn, record-written, text-is}
 use Rattle.rv_tool.proofs.recording.write_parts.Goals as goal
 
 pub returns-in_err-write_files-clause-performs : goal.returns-in_err-write_files-clause-performs
 returns-in_err-write_files-clause-performs g c =
     let w = make_words c.args.words.now in
-    rw (handed_on c.from_residual.result c.in_err-write_files.field-0.0 c.from_residual.ensures.1)
-    (record_torn w c.args.loaded.now.elf c.args.loaded.now.input c.args.points.now _ _ _ c.in_err-write_files.field-0.0 c.requires.survey c.requires.parts c.in_err-write_files.ensures)
+    rw (handed-on c.from_residual.result c.in_err-write_files.field-0.0 c.from_residual.ensures.1)
+    (record-torn w c.args.loaded.now.elf c.args.loaded.now.input c.args.points.now _ _ _ c.in_err-write_files.field-0.0 c.requires.survey c.requires.parts c.in_err-write_files.ensures)
 
 pub returns-clause-performs : goal.returns-clause-performs
 returns-clause-performs g c =
     let w = make_words c.args.words.now in
-    record_written w c.args.loaded.now.elf c.args.loaded.now.input c.args.points.now _ _ _ _ c.requires.survey c.requires.parts refl
-    (text_is w c.args.points.now _ _ _ _ _ _ c.in-Ok.ensures c.steps.ensures.value c.shards.ensures.value c.requires.survey.size_is c.end.ensures c.in-Some.ensures) c.in_ok-write_files.ensures
+    record-written w c.args.loaded.now.elf c.args.loaded.now.input c.args.points.now _ _ _ _ c.requires.survey c.requires.parts refl
+    (text-is w c.args.points.now _ _ _ _ _ _ c.in-Ok.ensures c.steps.ensures.value c.shards.ensures.value c.requires.survey.size_is c.end.ensures c.in-Some.ensures) c.in_ok-write_files.ensures

@@ -8,24 +8,24 @@ use Rattle.rv_tool.specs.CommandLine.{run}
 use Rattle.rv_plan.specs.declared.faults.Fault.TheVariants.{Elf}
 use Rattle.rv_tool.specs.Lines.{ran_line}
 use Rattle.rv_tool.specs.Outcome.{plan_of, run_plan}
-use Rattle.rv_plan.proofs.Lemmas.{handed_on, image_refused, performs_done, performs_torn}
-use Rattle.rv_tool.proofs.Running.{as_run, run_outcome, run_over_budget, run_reaches}
+use Rattle.rv_plan.proofs.Lemmas.{handed-on, image-refused, performs-done, performs-torn}
+use Rattle.rv_tool.proofs.Running.{as-run, run_outcome, run-over-budget, run-reaches}
 use Rattle.rv_tool.proofs.run.run.Goals as goal
 
 pub returns-in_err-loaded : goal.returns-in_err-loaded
 returns-in_err-loaded g c =
-    rw (handed_on c.from_residual.result c.in_err-loaded.field-0.0 c.from_residual.ensures.1) (c.in_err-loaded.ensures (run_plan (run_words c.args.words.now)))
+    rw (handed-on c.from_residual.result c.in_err-loaded.field-0.0 c.from_residual.ensures.1) (c.in_err-loaded.ensures (run_plan (run_words c.args.words.now)))
 
 pub returns-in_err-image : goal.returns-in_err-image
 returns-in_err-image g c =
     let w = run_words c.args.words.now in
-    rw (handed_on c.from_residual-in_err-image.result c.in_err-image.field-0.0 c.from_residual-in_err-image.ensures.1)
-    (image_refused w.elf w.input _ _ c.in_ok-loaded.loaded (run_plan w) c.in_err-image.field-0.0 c.in_ok-loaded.ensures
+    rw (handed-on c.from_residual-in_err-image.result c.in_err-image.field-0.0 c.from_residual-in_err-image.ensures.1)
+    (image-refused w.elf w.input _ _ c.in_ok-loaded.loaded (run_plan w) c.in_err-image.field-0.0 c.in_ok-loaded.ensures
     (subst (λ (bytes : List ℕ). (e : ElfFault) × (c.in_err-image.field-0.0 ≡ Elf e) × (first_fault bytes ≡ Some (number_of e))) c.list.ensures c.in_err-image.ensures.fault))
 
 pub returns-in-Err-Budget : goal.returns-in-Err-Budget
 returns-in-Err-Budget g c =
-    run_over_budget (run_words c.args.words.now) _ _ c.in_ok-loaded.loaded c.in_ok-loaded.ensures (subst (λ bytes. first_fault bytes ≡ None) c.list.ensures c.in_ok-image.ensures.faultless)
+    run-over-budget (run_words c.args.words.now) _ _ c.in_ok-loaded.loaded c.in_ok-loaded.ensures (subst (λ bytes. first_fault bytes ≡ None) c.list.ensures c.in_ok-image.ensures.faultless)
     (subst (λ i. GoesOn i c.in_ok-loaded.loaded.input c.args.words.now.budget) (c.in_ok-image.ensures.image ∙ ap (image c.args.words.now.version) c.list.ensures)
     (subst (λ input. GoesOn c.in_ok-image.image input c.args.words.now.budget) c.list-2.ensures (c.in-Err-Budget.ensures.err c.in-Err-Budget.field-0-is)))
 
@@ -34,11 +34,11 @@ returns-in_err-write_files g c =
     let w = run_words c.args.words.now in
     let ran = c.in-Ok.ran in
     let output : List ℕ = c.list-output.result.now ++ [] in
-    rw (handed_on c.from_residual-in_err-write_files.result c.in_err-write_files.field-0.0 c.from_residual-in_err-write_files.ensures.1)
-    (performs_torn (plan_of (run w)) _ _ _ (run_outcome w ran.steps ran.end output) c.in_err-write_files.field-0.0 c.in_ok-loaded.ensures.0
-    (run_reaches w _ _ c.in_ok-loaded.loaded ran.steps ran.end output c.in_ok-loaded.ensures
+    rw (handed-on c.from_residual-in_err-write_files.result c.in_err-write_files.field-0.0 c.from_residual-in_err-write_files.ensures.1)
+    (performs-torn (plan_of (run w)) _ _ _ (run_outcome w ran.steps ran.end output) c.in_err-write_files.field-0.0 c.in_ok-loaded.ensures.0
+    (run-reaches w _ _ c.in_ok-loaded.loaded ran.steps ran.end output c.in_ok-loaded.ensures
     (subst (λ bytes. first_fault bytes ≡ None) c.list.ensures c.in_ok-image.ensures.faultless)
-    (as_run c.in_ok-image.image (image w.version c.in_ok-loaded.loaded.elf) c.list-2.result.now c.in_ok-loaded.loaded.input w.budget ran.steps ran.end output
+    (as-run c.in_ok-image.image (image w.version c.in_ok-loaded.loaded.elf) c.list-2.result.now c.in_ok-loaded.loaded.input w.budget ran.steps ran.end output
     (c.in_ok-image.ensures.image ∙ ap (image w.version) c.list.ensures) c.list-2.ensures c.in-Ok.ensures.ok.ends c.in-Ok.ensures.ok.within
     (append-nil c.list-output.result.now ∙ c.list-output.ensures ∙ c.in-Ok.ensures.ok.output)))
     c.in_err-write_files.ensures)
@@ -48,10 +48,10 @@ returns g c =
     let w = run_words c.args.words.now in
     let ran = c.in-Ok.ran in
     let output : List ℕ = c.list-output.result.now ++ [] in
-    performs_done (plan_of (run w)) _ _ _ _ (run_outcome w ran.steps ran.end output) c.in_ok-loaded.ensures.0
-    (run_reaches w _ _ c.in_ok-loaded.loaded ran.steps ran.end output c.in_ok-loaded.ensures
+    performs-done (plan_of (run w)) _ _ _ _ (run_outcome w ran.steps ran.end output) c.in_ok-loaded.ensures.0
+    (run-reaches w _ _ c.in_ok-loaded.loaded ran.steps ran.end output c.in_ok-loaded.ensures
     (subst (λ bytes. first_fault bytes ≡ None) c.list.ensures c.in_ok-image.ensures.faultless)
-    (as_run c.in_ok-image.image (image w.version c.in_ok-loaded.loaded.elf) c.list-2.result.now c.in_ok-loaded.loaded.input w.budget ran.steps ran.end output
+    (as-run c.in_ok-image.image (image w.version c.in_ok-loaded.loaded.elf) c.list-2.result.now c.in_ok-loaded.loaded.input w.budget ran.steps ran.end output
     (c.in_ok-image.ensures.image ∙ ap (image w.version) c.list.ensures) c.list-2.ensures c.in-Ok.ensures.ok.ends c.in-Ok.ensures.ok.within
     (append-nil c.list-output.result.now ∙ c.list-output.ensures ∙ c.in-Ok.ensures.ok.output)))
     refl

@@ -4,8 +4,8 @@ use Rattle.rv_book.specs.declared.task.Piece.{Piece}
 use Rattle.rv_claim.specs.declared.view.Deposit.{Deposit}
 use Rattle.rv_claim.specs.declared.view.Lists.{Lists}
 use Rattle.rv_claim.specs.Views.{opens, kept, pass_view}
-use Rattle.rv_claim.proofs.Steps.{Seat, in_times}
-use Rattle.rv_claim.proofs.Seated.{seat_opens, seat_fills, out_times, held}
+use Rattle.rv_claim.proofs.Steps.{Seat, in-times, out-times}
+use Rattle.rv_claim.proofs.Seated.{seat-opens, seat-fills, held}
 use Rattle.rv_claim.proofs.board.Board.deposit.Goals as goal
 
 pub fetch_add-requires : goal.fetch_add-requires
@@ -15,7 +15,7 @@ fetch_add-requires g c =
     let i : ℕ = c.args.piece.index in (
       search rules,
       omega (arith, b.sized.0, c.requires.index),
-      seat_opens _ _ _ _ _ _ i (i + 1) refl p.sits p.idle (in_times i _ c.requires.drew) (out_times i _ c.requires.new) (omega (arith, b.about.0, c.requires.index)),
+      seat-opens _ _ _ _ _ _ i (i + 1) refl p.sits p.idle (in-times i _ c.requires.drew) (out-times i _ c.requires.new) (omega (arith, b.about.0, c.requires.index)),
     )
 
 pub fetch_add-requires-2 : goal.fetch_add-requires-2
@@ -32,5 +32,5 @@ fetch_add-requires-2 g c =
     let held_piece = held l i (i + 1 - 1) k p.seat.me c.fetch_add.new.seat.me c.exchange.new.seat.me p.sits (omega arith) c.fetch_add.ensures.2.1 c.exchange.ensures.3 in (
       search rules,
       omega (arith, b.sized.0, c.requires.index),
-      seat_fills _ _ _ _ _ _ (opens l i) i (i + 1) refl (held_piece ∙ ap (λ (y : Deposit). let s : Seat = (pass_view (opens l i), (i, Some y) ∷ []) in s) same) refl (omega (arith, b.about.0, c.requires.index)),
+      seat-fills _ _ _ _ _ _ (opens l i) i (i + 1) refl (held_piece ∙ ap (λ (y : Deposit). let s : Seat = (pass_view (opens l i), (i, Some y) ∷ []) in s) same) refl (omega (arith, b.about.0, c.requires.index)),
     )

@@ -2,9 +2,9 @@ use Rattle.std.proofs.Common.{rules, ◌≡◌, ℕ, ◌+◌, List, [], replicat
 use Rattle.std.specs.Prelude.{None}
 use Rattle.atomic_table.specs.Table.{opening}
 use Rattle.rv_claim.specs.Views.{home_view}
-use Rattle.rv_claim.specs.Rule.{Ruled}
-use Rattle.rv_claim.proofs.Homes.{begins}
-use Rattle.rv_claim.proofs.Seated.{seat_splits}
+use Rattle.rv_claim.specs.History.{Kept}
+use Rattle.rv_claim.proofs.Histories.{kept-begins}
+use Rattle.rv_claim.proofs.Seated.{seat-splits}
 use Rattle.rv_claim.proofs.board.Board.open.Goals as goal
 
 pub vacant-requires : goal.vacant-requires
@@ -13,7 +13,7 @@ vacant-requires g c =
     let n : ℕ = c.args.n in
     let w : ℕ = c.args.workers in
     let words : c.as_slice.result.now ≡ replicate (n + 1) 0 = search rules in
-    subst (λ (ws : List ℕ). Ruled piece n w (opening ws (replicate n None) (home_view 0 []))) (sym words) (begins piece n w (search rules) (search rules))
+    subst (λ (ws : List ℕ). Kept piece n w (opening ws (replicate n None) (home_view 0 []))) (sym words) (kept-begins piece n w (search rules) (search rules) (search rules))
 
 pub split_seat-seat-requires : goal.split_seat-seat-requires
 split_seat-seat-requires g c =
@@ -24,5 +24,5 @@ split_seat-seat-requires g c =
     let same = c.as_slice.ensures.len in (
       e.2,
       omega (arith, e.0, same, long),
-      seat_splits _ _ _ _ made.1.me _ _ e.3 e.4 (omega (arith, workers, c.requires.workers)),
+      seat-splits _ _ _ _ made.1.me _ _ e.3 e.4 (omega (arith, workers, c.requires.workers)),
     )

@@ -1,6 +1,6 @@
 use Rattle.std.proofs.Common.{◌≡◌, ◌==◌, ◌&&◌, not, true, false, is_ok, [], if◌then◌else◌, refl, sym, ◌∙◌, arith}
 use Rattle.rv_host.specs.Files.{with_file}
-use Rattle.rv_host.proofs.CallLaws.{and_true, merged}
+use Rattle.rv_host.proofs.CallLaws.{and-true, merged}
 use Rattle.rv_host.proofs.mem_shelf.MemShelfShelf.create.Goals as goal
 use Rattle.rv_host.proofs.mem_shelf.MemShelfShelf.create.Goals.{then-is_due, else-is_due, then-has_memory, else-has_memory}
 
@@ -20,7 +20,7 @@ returns c =
           let files : w.set_copy.new.self ≡ (if is_ok w.set_copy.result then with_file c.self.inside.files c.args.name.now [] else c.self.inside.files) =
           merged w.set_copy.result _ _ _ w.set_copy.ensures.ok w.set_copy.ensures.err in (
             is_ok w.set_copy.result,
-            rw (← c.self.view_is, c.raise_if-self-inside-2.ensures, c.raise_if-self-inside.ensures, done, w.has_memory-is, w.self-inside-is, files, w.is_ok-has_memory.ensures.value, w.if-is_due.false, due, c.is_due-is_due.ensures.counted, and_true (is_ok w.set_copy.result)) refl,
+            rw (← c.self.view_is, c.raise_if-self-inside-2.ensures, c.raise_if-self-inside.ensures, done, w.has_memory-is, w.self-inside-is, files, w.is_ok-has_memory.ensures.value, w.if-is_due.false, due, c.is_due-is_due.ensures.counted, and-true (is_ok w.set_copy.result)) refl,
             rw (c.answer.ensures, ← c.self.view_is, done, w.has_memory-is, w.is_ok-has_memory.ensures.value, w.if-is_due.false, due) refl,
           )
     ]

@@ -2,7 +2,7 @@ use Rattle.std.proofs.Common.{◌∙◌, ◌++◌, List, ℕ, refl, ap, sym}
 use Rattle.rv_reading.specs.Stream.{reads, patient}
 use Rattle.rv_judge.specs.Subject.{step}
 use Rattle.rv_judge.specs.Phases.{phase_of, stopped}
-use Rattle.rv_judge.proofs.WholeFile.{few, goes_whole, lasts, stays, waits}
+use Rattle.rv_judge.proofs.WholeFile.{few, goes-whole, lasts, stays, waits}
 use Rattle.rv_judge.proofs.held.Reading.read_on.Goals as goal
 
 pub returns-in-Some : goal.returns-in-Some
@@ -40,5 +40,5 @@ returns g c =
       subject = refl;
       goes = λ rest.
           ap (λ (z : List ℕ). reads (step lanes x.subject) (phase_of c.read-stop.new.self) (z ++ rest)) c.kept-self.ensures
-          ∙ goes_whole lanes x.subject (phase_of x.machine) (phase_of c.read-stop.new.self) c.args.bytes.now stop.left.now stop.refusal c.read-stop.ensures.stops c.read-stop.ensures.goes rest;
+          ∙ goes-whole lanes x.subject (phase_of x.machine) (phase_of c.read-stop.new.self) c.args.bytes.now stop.left.now stop.refusal c.read-stop.ensures.stops c.read-stop.ensures.goes rest;
     }

@@ -3,7 +3,7 @@ use Rattle.rv_base.specs.declared.record.Header.{Header}
 use Rattle.rv_base.specs.declared.record.Refusal.{Refusal}
 use Rattle.rv_rules.specs.Checks.{first_broken}
 use Rattle.rv_judge.specs.Phases.{sums_of, end_checks}
-use Rattle.rv_judge.proofs.StepFound.{end_found, not_not}
+use Rattle.rv_judge.proofs.StepFound.{end-found, not-not}
 use Rattle.rv_judge.proofs.phases.Machine.end.Goals as goal
 
 pub returns-in-Some : goal.returns-in-Some
@@ -11,7 +11,7 @@ returns-in-Some c = λ lanes.
     let m = c.args.self.now in
     let nothing : Bool = not (not c.is_empty.result) in
     let broken = ap (λ (h : Header). first_broken (end_checks h m.place (sums_of m.all) nothing)) (sym c.header-header.ensures.value) ∙ sym c.broken_end.ensures ∙ c.in-Some.is in
-    let found = end_found lanes c.args.subject.now c.args.next c.args.before m.place (sums_of m.all) c.args.bytes.now (Some c.in-Some.rule) nothing (not_not c.is_empty.result ∙ c.is_empty.ensures) broken in
+    let found = end-found lanes c.args.subject.now c.args.next c.args.before m.place (sums_of m.all) c.args.bytes.now (Some c.in-Some.rule) nothing (not-not c.is_empty.result ∙ c.is_empty.ensures) broken in
     let is : record { shard = c.args.subject.now.header.shards; row = c.args.next; rule = c.in-Some.rule } ≡ c.at.result = cc in
     found ∙ ap (λ (r : Refusal). Err r) is
 
@@ -20,4 +20,4 @@ returns-in-None c = λ lanes.
     let m = c.args.self.now in
     let nothing : Bool = not (not c.is_empty.result) in
     let broken = ap (λ (h : Header). first_broken (end_checks h m.place (sums_of m.all) nothing)) (sym c.header-header.ensures.value) ∙ sym c.broken_end.ensures ∙ c.in-None.is in
-    end_found lanes c.args.subject.now c.args.next c.args.before m.place (sums_of m.all) c.args.bytes.now None nothing (not_not c.is_empty.result ∙ c.is_empty.ensures) broken
+    end-found lanes c.args.subject.now c.args.next c.args.before m.place (sums_of m.all) c.args.bytes.now None nothing (not-not c.is_empty.result ∙ c.is_empty.ensures) broken

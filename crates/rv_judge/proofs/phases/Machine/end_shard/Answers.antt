@@ -4,14 +4,14 @@ use Rattle.rv_base.specs.declared.record.Refusal.{Refusal}
 use Rattle.rv_reading.specs.Machine.{Sums}
 use Rattle.rv_reading.specs.Machine.Phase.{Shards}
 use Rattle.rv_judge.specs.Phases.{sums_of, inside_of}
-use Rattle.rv_judge.proofs.StepFound.{digests_other, digests_short, digests_false, digests_went}
+use Rattle.rv_judge.proofs.StepFound.{digests-other, digests-short, digests-false, digests-went}
 use Rattle.rv_judge.proofs.phases.Machine.end_shard.Goals as goal
 
 pub returns-then-rows : goal.returns-then-rows
 returns-then-rows c = λ lanes.
     let r = c.args.rows in
     let m = c.args.self.now in
-    let found = digests_other lanes c.args.subject.now r.left r.next r.behind r.shard (inside_of r m.shard) m.place (sums_of m.all) c.args.bytes.now c.requires.none (ne_eqb r.bytes r.head.bytes c.if-rows.true) in
+    let found = digests-other lanes c.args.subject.now r.left r.next r.behind r.shard (inside_of r m.shard) m.place (sums_of m.all) c.args.bytes.now c.requires.none (ne_eqb r.bytes r.head.bytes c.if-rows.true) in
     (found ∙ ap (λ (x : Refusal). Err x) (sym c.at.ensures), refl)
 
 pub returns-then-bytes-lt-DIGESTS_BYTES : goal.returns-then-bytes-lt-DIGESTS_BYTES
@@ -19,7 +19,7 @@ returns-then-bytes-lt-DIGESTS_BYTES c = λ lanes.
     let r = c.args.rows in
     let m = c.args.self.now in
     let found =
-    digests_short lanes c.args.subject.now r.left r.next r.behind r.shard (inside_of r m.shard) m.place (sums_of m.all) c.args.bytes.now c.requires.none (eq-eqb r.bytes r.head.bytes c.if-rows.false)
+    digests-short lanes c.args.subject.now r.left r.next r.behind r.shard (inside_of r m.shard) m.place (sums_of m.all) c.args.bytes.now c.requires.none (eq-eqb r.bytes r.head.bytes c.if-rows.false)
     c.if-bytes-lt-DIGESTS_BYTES.true in
     (found ∙ ap (λ (x : Refusal). Err x) (sym c.at-then-bytes-lt-DIGESTS_BYTES.ensures), refl)
 
@@ -28,7 +28,7 @@ returns-then-not-are_stated c = λ lanes.
     let r = c.args.rows in
     let m = c.args.self.now in
     let found =
-    digests_false lanes c.args.subject.now r.left r.next r.behind r.shard (inside_of r m.shard) m.place (sums_of m.all) c.args.bytes.now c.requires.none (eq-eqb r.bytes r.head.bytes c.if-rows.false)
+    digests-false lanes c.args.subject.now r.left r.next r.behind r.shard (inside_of r m.shard) m.place (sums_of m.all) c.args.bytes.now c.requires.none (eq-eqb r.bytes r.head.bytes c.if-rows.false)
     c.if-bytes-lt-DIGESTS_BYTES.false (sym c.are_stated.ensures ∙ c.if-not-are_stated.true) in
     (found ∙ ap (λ (x : Refusal). Err x) (sym c.at-then-not-are_stated.ensures), refl)
 
@@ -41,7 +41,7 @@ returns c = λ lanes.
     let m = c.args.self.now in
     record {
       found =
-          digests_went lanes c.args.subject.now r.left r.next r.behind r.shard (inside_of r m.shard) m.place (sums_of m.all) c.args.bytes.now c.requires.none (eq-eqb r.bytes r.head.bytes c.if-rows.false)
+          digests-went lanes c.args.subject.now r.left r.next r.behind r.shard (inside_of r m.shard) m.place (sums_of m.all) c.args.bytes.now c.requires.none (eq-eqb r.bytes r.head.bytes c.if-rows.false)
           c.if-bytes-lt-DIGESTS_BYTES.false (sym c.are_stated.ensures ∙ c.if-not-are_stated.false)
           ∙ ap (λ (z : Sums). Ok (Some (Shards r.behind (r.shard + 1) m.place z, drop 256 c.args.bytes.now))) (sym c.join.ensures);
       taken = c.if-bytes-lt-DIGESTS_BYTES.false;

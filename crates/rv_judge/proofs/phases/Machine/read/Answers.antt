@@ -1,6 +1,6 @@
 use Rattle.std.proofs.Common.{◌∙◌, sym}
 use Rattle.rv_judge.specs.Phases.{Went, extent_of, phase_of}
-use Rattle.rv_judge.proofs.ReadingOn.{smaller, goes, is_within, is_last}
+use Rattle.rv_judge.proofs.ReadingOn.{smaller, goes, is-within, is-last}
 use Rattle.rv_judge.proofs.phases.Machine.read.Goals as goal
 
 pub loop-extent-smaller : goal.loop-extent-smaller
@@ -24,6 +24,6 @@ loop-extent-preserved g c =
     record {
       fits = w.fits;
       goes = goes lanes s extent m new c.args.self.now left all n reading w before.goes;
-      within = is_within lanes s extent m new c.args.self.now left all n reading w before.within;
-      behind = is_last lanes s extent m new c.args.self.now left all n reading w before.within before.behind;
+      within = is-within lanes s extent m new c.args.self.now left all n reading w before.within;
+      behind = is-last lanes s extent m new c.args.self.now left all n reading w before.within before.behind;
     }

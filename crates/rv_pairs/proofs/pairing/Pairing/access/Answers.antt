@@ -1,6 +1,6 @@
 use Rattle.std.proofs.Common.{rules, ◌≡◌, ◌+◌, ◌<◌, [], ◌∷◌, ◌++◌, Some, length, ap, ◌∙◌, arith}
 use Rattle.std.specs.Prelude.{sum_by}
-use Rattle.rv_pairs.proofs.MoreTuples.{one_more, over_none, over_some}
+use Rattle.rv_pairs.proofs.MoreTuples.{one-more, over-none, over-some}
 use Rattle.rv_pairs.proofs.pairing.Pairing.access.Goals.{in-Some+then-eq, in-Some+else-eq, in-None}
 use Rattle.rv_pairs.proofs.pairing.Pairing.access.Goals as goal
 
@@ -22,8 +22,8 @@ returns g c = λ rs ws covers.
             reads_sum = covers.reads_sum;
             writes_sum = covers.writes_sum;
             both_sum = w.add.ensures covers.shared covers.both_sum;
-            all_read = λ f. omega (arith, one_more f rs covers.shared read (sum_by f covers.only_read) (omega (arith, covers.all_read f)));
-            all_written = λ f. omega (arith, over_some f ws covers.shared (sum_by f covers.only_written) table place now read c.args.written inside c.index.ensures (w.in-Some.is ∙ ap Some same) (omega (arith, covers.all_written f)));
+            all_read = λ f. omega (arith, one-more f rs covers.shared read (sum_by f covers.only_read) (omega (arith, covers.all_read f)));
+            all_written = λ f. omega (arith, over-some f ws covers.shared (sum_by f covers.only_written) table place now read c.args.written inside c.index.ensures (w.in-Some.is ∙ ap Some same) (omega (arith, covers.all_written f)));
           }
       | in-Some+else-eq w ↦
           let last = w.in-Some.last in
@@ -34,8 +34,8 @@ returns g c = λ rs ws covers.
             reads_sum = w.add-else-eq-2.ensures covers.only_read covers.reads_sum;
             writes_sum = w.add-else-eq.ensures covers.only_written covers.writes_sum;
             both_sum = covers.both_sum;
-            all_read = λ f. one_more f rs covers.only_read read (sum_by f covers.shared) (covers.all_read f);
-            all_written = λ f. over_some f ws covers.only_written (sum_by f covers.shared) table place now last c.args.written inside c.index.ensures w.in-Some.is (covers.all_written f);
+            all_read = λ f. one-more f rs covers.only_read read (sum_by f covers.shared) (covers.all_read f);
+            all_written = λ f. over-some f ws covers.only_written (sum_by f covers.shared) table place now last c.args.written inside c.index.ensures w.in-Some.is (covers.all_written f);
           }
       | in-None w ↦
           rw w.self-is record {
@@ -45,7 +45,7 @@ returns g c = λ rs ws covers.
             reads_sum = w.add-in-None.ensures covers.only_read covers.reads_sum;
             writes_sum = covers.writes_sum;
             both_sum = covers.both_sum;
-            all_read = λ f. one_more f rs covers.only_read read (sum_by f covers.shared) (covers.all_read f);
-            all_written = λ f. over_none f ws (sum_by f covers.only_written + sum_by f covers.shared) table place now c.args.written inside c.index.ensures w.in-None.is (covers.all_written f);
+            all_read = λ f. one-more f rs covers.only_read read (sum_by f covers.shared) (covers.all_read f);
+            all_written = λ f. over-none f ws (sum_by f covers.only_written + sum_by f covers.shared) table place now c.args.written inside c.index.ensures w.in-None.is (covers.all_written f);
           }
     ]

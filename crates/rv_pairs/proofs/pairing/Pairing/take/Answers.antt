@@ -3,8 +3,8 @@ use Rattle.std.specs.List.{flat_map}
 use Rattle.std.specs.Option.{option_to_list}
 use Rattle.std.proofs.lemmas.List.{take_all}
 use Rattle.rv_pairs.specs.Covers.{IsSumOf}
-use Rattle.rv_pairs.proofs.MoreTuples.{nothing_waits}
-use Rattle.rv_pairs.proofs.SameSums.{three_parts, two_parts}
+use Rattle.rv_pairs.proofs.MoreTuples.{nothing-waits}
+use Rattle.rv_pairs.proofs.SameSums.{three-parts, two-parts}
 use Rattle.rv_pairs.proofs.pairing.Pairing.take.Goals as goal
 
 pub returns-clause-digests : goal.returns-clause-digests
@@ -16,9 +16,9 @@ returns-clause-digests g c = λ rs ws covers.
     let written : IsSumOf lanes c.loop-slot.writes (covers.only_written ++ waits)
     = rw all at (c.loop-slot.invariant covers.only_written covers.writes_sum) in (
       c.add-2.ensures.of_list lanes _ _ (c.total-read.ensures covers.only_read covers.reads_sum) (c.total-shared.ensures covers.shared covers.both_sum)
-          ∙ two_parts lanes covers.only_read covers.shared rs covers.all_read,
+          ∙ two-parts lanes covers.only_read covers.shared rs covers.all_read,
       c.add-3.ensures.of_list lanes _ _ (c.total-written.ensures (covers.only_written ++ waits) written) (c.total-shared.ensures covers.shared covers.both_sum)
-          ∙ three_parts lanes covers.only_written waits covers.shared ws covers.all_written,
+          ∙ three-parts lanes covers.only_written waits covers.shared ws covers.all_written,
     )
 
 pub returns-clause-empty : goal.returns-clause-empty
@@ -31,5 +31,5 @@ returns-clause-empty g c = λ lanes.
       writes_sum = c.new-self-2.ensures lanes;
       both_sum = c.new-self-3.ensures lanes;
       all_read = λ f. refl;
-      all_written = λ f. rw (none, nothing_waits (length c.args.self.now.table.items)) refl;
+      all_written = λ f. rw (none, nothing-waits (length c.args.self.now.table.items)) refl;
     }

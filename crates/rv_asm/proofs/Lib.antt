@@ -1,0 +1,13 @@
+pub mod Values
+pub mod LineLaws
+pub mod NameLaws
+pub mod SymbolLaws
+pub mod WordLaws
+pub mod AssemblyLaws
+pub mod ListedLaws
+pub mod ImageLaws
+pub mod DecodeLaws
+pub mod Spelling
+pub mod OperandTexts
+pub mod Reading
+pub mod RoundTrip
