@@ -1,7 +1,15 @@
 //! `state` and `cell`.
 
-use super::programs::{PROGRAM, RECORD, spelled};
+use super::programs::{COUNT, PROGRAM, RECORD, spelled};
 use super::{expect, shelf_with};
+use rv_base::TableEntry;
+use rv_base::cells::REGISTER_CELLS;
+use rv_file::{Parsed, parse};
+use rv_isa::Hart;
+use rv_program::Program;
+use rv_query::{cell_at, state_at};
+use std::alloc::Global;
+use std::process::Abort;
 use std::test::Fail;
 
 /// The state before the last step of `PROGRAM`.
@@ -114,5 +122,54 @@ fn what_cannot_be_asked(rt: HostRuntime) -> Result<(), Fail> {
         shelf.put("elf", &[])?;
         expect(&rt, line, &mut shelf, 3, "fault elf 1 Short\n")?;
     }
+    Ok(())
+}
+
+/// The cells that a program uses in its first steps, with their values and times.
+fn touched(alloc: Global, program: &Program<'_>, steps: u32) -> Result<Vec<TableEntry>, Fail> {
+    let mut hart = Hart::start(alloc, program.image(), program.input());
+    for number in 0..steps {
+        hart.step(u64::from(number))?;
+    }
+    Ok(hart.touched()?)
+}
+
+/// Each register before a step, and each word that was used before it, is what the machine has.
+fn expect_as_run<R: Abort + AllocGlobal>(
+    rt: &R,
+    program: &Program<'_>,
+    parsed: &Parsed<'_>,
+    step: u32,
+) -> Result<(), Fail> {
+    let mut registers = [0; 32];
+    registers[2] = 0x7FFF_F000;
+    for entry in touched(rt.alloc(), program, step)?.as_slice() {
+        let seen = cell_at(program, parsed, entry.cell, u64::from(step));
+        let seen = seen.map(|seen| (seen.value, seen.time));
+        assert_eq!(rt; seen, Some((entry.value, entry.time)));
+        let register = entry.cell.wrapping_sub(REGISTER_CELLS) as usize;
+        if register < 32 {
+            registers[register] = entry.value;
+        }
+    }
+    let state = state_at(program, parsed, u64::from(step));
+    assert_eq!(rt; state.map(|state| state.regs), Some(registers));
+    Ok(())
+}
+
+#[test]
+fn a_longer_run_is_asked(rt: HostRuntime) -> Result<(), Fail> {
+    let elf = spelled(&rt, &COUNT)?;
+    let input = b"It was the best of times,\nit was the worst of times.\n";
+    let mut shelf = shelf_with(&rt, &elf)?;
+    shelf.put("input", input)?;
+    let made = "made steps=1038 shards=11 end=0 code=0 bytes=81493\n";
+    expect(&rt, "make elf input record 1 100 2000", &mut shelf, 0, made)?;
+    let program = Program::open(&elf, input)?;
+    let parsed = parse(shelf.file("record").ok_or("no record")?)?;
+    for step in [1, 100, 519, 1037] {
+        expect_as_run(&rt, &program, &parsed, step)?;
+    }
+    assert_eq!(rt; state_at(&program, &parsed, 1038), None);
     Ok(())
 }
