@@ -13,6 +13,8 @@ use rv_base::{NoMemory, Verdict};
 use rv_digest::{ShaLanes, TinyLanes};
 use rv_gen::program;
 use rv_host::RealShelf;
+use rv_isa::Machine;
+use rv_judge::judge;
 use rv_plan::load;
 use rv_point::{Points, survey};
 use rv_program::Program;
@@ -101,12 +103,38 @@ fn print_time<R: Print>(rt: &R, what: &str, seconds: f64, steps: f64, bare: f64)
     )
 }
 
-/// The least seconds of going through a run, of replaying it by lanes that hash nothing, and of as many bare hashes as four an access.
+/// The least seconds of a run by the plain machine, of going through it for its record, of replaying and of judging it by lanes that hash
+/// nothing, and of as many bare hashes as four an access.
 #[derive(Clone, Copy)]
 struct Parts {
+    machine: f64,
     walk: f64,
     replay: f64,
+    judge: f64,
     bare: f64,
+}
+
+/// The seconds of a run by the plain machine.
+fn time_machine<R: Clock>(rt: &R, alloc: Global, program: &Program<'_>) -> io::Result<f64> {
+    let start = Instant::now(rt)?;
+    let machine = Machine::start(alloc, program.image(), program.input());
+    let ran = machine.run(u64::from(BUDGET_LIMIT));
+    let seconds = start.elapsed(rt)?.as_secs_f64();
+    if ran.is_err() {
+        return Err(no_memory(NoMemory));
+    }
+    Ok(seconds)
+}
+
+/// The seconds of judging a file by lanes that hash nothing.
+fn time_judge<R: Clock>(rt: &R, program: &Program<'_>, file: &[u8]) -> io::Result<f64> {
+    let start = Instant::now(rt)?;
+    let verdict = judge(program, file, TinyLanes);
+    let seconds = start.elapsed(rt)?.as_secs_f64();
+    if !is_accepted(verdict) {
+        return Err(io::Error::from(io::ErrorKind::InvalidData));
+    }
+    Ok(seconds)
 }
 
 fn time_parts<R: Clock>(
@@ -117,14 +145,20 @@ fn time_parts<R: Clock>(
     accesses: u64,
 ) -> io::Result<Parts> {
     let mut least = Parts {
+        machine: 1e9,
         walk: 1e9,
         replay: 1e9,
+        judge: 1e9,
         bare: 1e9,
     };
     let task = ShardTask::new(points, TinyLanes);
     let hashes = accesses.wrapping_mul(4);
+    let book = run_one(alloc, &task, points.shards()).map_err(no_memory)?;
+    let file = file_of(alloc, program, points, &book).map_err(no_memory)?;
     let mut sum = 0u64;
     for _ in 0..ROUNDS {
+        least.machine = least.machine.min(time_machine(rt, alloc, program)?);
+        least.judge = least.judge.min(time_judge(rt, program, &file)?);
         let start = Instant::now(rt)?;
         let walked = run_of(alloc, program, points.size());
         least.walk = least.walk.min(start.elapsed(rt)?.as_secs_f64());
@@ -229,6 +263,19 @@ fn time_teams<R: Threads + Wait + Sync + Clock + Print>(
     Ok(())
 }
 
+/// What the parts of making and checking take that hash nothing, beside the plain machine.
+fn print_parts<R: Print>(rt: &R, parts: &Parts, steps: f64) -> io::Result<()> {
+    for (what, seconds) in [
+        ("the plain machine", parts.machine),
+        ("the run gone through", parts.walk),
+        ("replayed without hashes", parts.replay),
+        ("judged without hashes", parts.judge),
+    ] {
+        print_time(rt, what, seconds, steps, parts.bare)?;
+    }
+    Ok(())
+}
+
 /// Times a run at one shard size.
 fn time_size<R: Threads + Wait + Sync + Clock + Print>(
     rt: &R,
@@ -246,14 +293,7 @@ fn time_size<R: Threads + Wait + Sync + Clock + Print>(
     let steps = float_of(points.steps());
     let parts = time_parts(rt, alloc, program, &points, accesses)?;
     print_run(rt, &points, accesses, file.len(), parts.bare)?;
-    print_time(rt, "the run gone through", parts.walk, steps, parts.bare)?;
-    print_time(
-        rt,
-        "replayed without hashes",
-        parts.replay,
-        steps,
-        parts.bare,
-    )?;
+    print_parts(rt, &parts, steps)?;
     time_teams(rt, alloc, program, &points, &file, parts.bare)
 }
 
