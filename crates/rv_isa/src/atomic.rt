@@ -5,7 +5,7 @@ ghost use Rattle.arrayvec.specs.ArrayVec.{array_vec_len};
 ghost use Rattle.rv_rules.specs.Expected as isa;
 ghost use Rattle.rv_isa.specs.Represented.{AppendsExpected, conditional_writes};
 
-use crate::accesses::operand;
+use crate::accesses::{Touches, operand};
 use crate::step::{Outcome, Step};
 use rv_alu::amo_result;
 use rv_base::cells::{MEMORY_SLOT, RD_SLOT, RESERVATION_CELL, RESERVATION_SLOT};
@@ -14,18 +14,18 @@ use rv_base::{Atomic, AtomicOp};
 
 /// The expected step of an atomic instruction.
 #[tactic(auto, unfolding(rv_rules::specs::Expected::expected_atomic), using(crate::proofs::Made::made))]
-pub(crate) fn atomic(step: &mut Step<'_, '_>, atomic: Atomic) -> Outcome
-    requires { array_vec_len step.old.touches.list ≤ 1 }
-    ensures { AppendsExpected (isa.expected_atomic step.old.pc atomic step.old.seen.now) step.old.touches.list.items step.new.touches.list.items result }
+pub(crate) fn atomic(step: &Step<'_, '_>, touches: &mut Touches, atomic: Atomic) -> Outcome
+    requires { array_vec_len touches.old.list ≤ 1 }
+    ensures { AppendsExpected (isa.expected_atomic step.now.pc atomic step.now.seen.now) touches.old.list.items touches.new.list.items result }
 {
     let address = operand(atomic.rs1, step.seen.s2);
     let value = operand(atomic.rs2, step.seen.s3);
-    step.touches.read_two(step.seen, atomic.rs1, atomic.rs2);
+    touches.read_two(step.seen, atomic.rs1, atomic.rs2);
     if address % 4 != 0 {
         return step.ends(misaligned_kind(atomic.op), 0);
     }
     let next = step.goes_on();
-    write(step, atomic, address, value);
+    write(step, touches, atomic, address, value);
     next
 }
 
@@ -40,40 +40,38 @@ fn misaligned_kind(op: AtomicOp) -> u8
 }
 
 /// What an aligned atomic instruction accesses after its reads. A reservation is the reserved address and 1.
-fn write(step: &mut Step<'_, '_>, atomic: Atomic, address: u32, value: u32)
-    requires room { array_vec_len step.old.touches.list ≤ 5 }
+fn write(step: &Step<'_, '_>, touches: &mut Touches, atomic: Atomic, address: u32, value: u32)
+    requires room { array_vec_len touches.old.list ≤ 5 }
     requires aligned { address % 4 ≡ 0 }
-    ensures { step.new.touches.list.items ≡ step.old.touches.list.items ++ isa.atomic_writes atomic.op atomic.rd address value step.old.seen.now }
+    ensures { touches.new.list.items ≡ touches.old.list.items ++ isa.atomic_writes atomic.op atomic.rd address value step.now.seen.now }
 {
     let rd = atomic.rd;
     let word = step.seen.s6;
     match atomic.op {
         AtomicOp::Lr => {
-            step.touches.touch(MEMORY_SLOT, address / 4, word);
-            step.touches.on_register(RD_SLOT, rd, word);
-            step.touches
-                .touch(RESERVATION_SLOT, RESERVATION_CELL, address + 1);
+            touches.touch(MEMORY_SLOT, address / 4, word);
+            touches.on_register(RD_SLOT, rd, word);
+            touches.touch(RESERVATION_SLOT, RESERVATION_CELL, address + 1);
         }
-        AtomicOp::Sc => store_conditional(step, rd, address, value),
+        AtomicOp::Sc => store_conditional(step, touches, rd, address, value),
         op => {
             let new = amo_result(op, word, value);
-            step.touches.touch(MEMORY_SLOT, address / 4, new);
-            step.touches.on_register(RD_SLOT, rd, word);
+            touches.touch(MEMORY_SLOT, address / 4, new);
+            touches.on_register(RD_SLOT, rd, word);
         }
     }
 }
 
 /// A store-conditional stores where its word is reserved, and the reservation ends.
-fn store_conditional(step: &mut Step<'_, '_>, rd: u8, address: u32, value: u32)
-    requires room { array_vec_len step.old.touches.list ≤ 5 }
+fn store_conditional(step: &Step<'_, '_>, touches: &mut Touches, rd: u8, address: u32, value: u32)
+    requires room { array_vec_len touches.old.list ≤ 5 }
     requires aligned { address % 4 ≡ 0 }
-    ensures { step.new.touches.list.items ≡ step.old.touches.list.items ++ conditional_writes rd address value (step.old.seen.now.s8 == address + 1) }
+    ensures { touches.new.list.items ≡ touches.old.list.items ++ conditional_writes rd address value (step.now.seen.now.s8 == address + 1) }
 {
     let reserved = step.seen.s8 == address + 1;
     if reserved {
-        step.touches.touch(MEMORY_SLOT, address / 4, value);
+        touches.touch(MEMORY_SLOT, address / 4, value);
     }
-    step.touches
-        .on_register(RD_SLOT, rd, if reserved { 0 } else { 1 });
-    step.touches.touch(RESERVATION_SLOT, RESERVATION_CELL, 0);
+    touches.on_register(RD_SLOT, rd, if reserved { 0 } else { 1 });
+    touches.touch(RESERVATION_SLOT, RESERVATION_CELL, 0);
 }

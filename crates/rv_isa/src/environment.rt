@@ -8,28 +8,29 @@ ghost use Rattle.rv_spec.specs.Step.{within_word};
 ghost use Rattle.rv_isa.specs.Represented.{AppendsExpected};
 
 use crate::abi::{A0, A7};
+use crate::accesses::Touches;
 use crate::step::{Outcome, Step};
 use rv_base::cells::RS1_SLOT;
 use rv_base::machine::{BAD_DESCRIPTOR, EXIT, EXIT_CALL, EXIT_GROUP, NO_SUCH_CALL, READ, WRITE};
 
 /// The expected step of a call of the environment.
 #[tactic(auto, unfolding(rv_rules::specs::Expected::expected_call), using(crate::proofs::Made::made))]
-pub(crate) fn call(step: &mut Step<'_, '_>) -> Outcome
-    requires room { array_vec_len step.old.touches.list ≤ 1 }
-    requires within { step.old.at ≤ length step.old.input.now }
-    ensures { AppendsExpected (isa.expected_call step.old.input.now step.old.at step.old.pc step.old.seen.now) step.old.touches.list.items step.new.touches.list.items result }
+pub(crate) fn call(step: &Step<'_, '_>, touches: &mut Touches) -> Outcome
+    requires room { array_vec_len touches.old.list ≤ 1 }
+    requires within { step.now.at ≤ length step.now.input.now }
+    ensures { AppendsExpected (isa.expected_call step.now.input.now step.now.at step.now.pc step.now.seen.now) touches.old.list.items touches.new.list.items result }
 {
     let seen = step.seen;
     match seen.s2 {
         EXIT_CALL | EXIT_GROUP => {
-            step.touches.read_two(seen, A7, A0);
+            touches.read_two(seen, A7, A0);
             step.ends(EXIT, seen.s3)
         }
-        READ => read(step),
-        WRITE => write(step),
+        READ => read(step, touches),
+        WRITE => write(step, touches),
         _ => {
-            step.touches.on_register(RS1_SLOT, A7, seen.s2);
-            step.sets(A0, NO_SUCH_CALL)
+            touches.on_register(RS1_SLOT, A7, seen.s2);
+            step.sets(touches, A0, NO_SUCH_CALL)
         }
     }
 }
@@ -68,45 +69,45 @@ fn from_lane(word: u32, lane: u32, count: u32) -> u32
 
 /// From standard input into the buffer.
 #[tactic(auto, using(crate::proofs::Made::made))]
-fn read(step: &mut Step<'_, '_>) -> Outcome
-    requires room { array_vec_len step.old.touches.list ≤ 1 }
-    requires within { step.old.at ≤ length step.old.input.now }
-    ensures { AppendsExpected (isa.expected_read step.old.input.now step.old.at step.old.pc step.old.seen.now) step.old.touches.list.items step.new.touches.list.items result }
+fn read(step: &Step<'_, '_>, touches: &mut Touches) -> Outcome
+    requires room { array_vec_len touches.old.list ≤ 1 }
+    requires within { step.now.at ≤ length step.now.input.now }
+    ensures { AppendsExpected (isa.expected_read step.now.input.now step.now.at step.now.pc step.now.seen.now) touches.old.list.items touches.new.list.items result }
 {
     let seen = step.seen;
-    step.touches.read_arguments(seen);
+    touches.read_arguments(seen);
     if seen.s3 != 0 {
-        return step.sets(A0, BAD_DESCRIPTOR);
+        return step.sets(touches, A0, BAD_DESCRIPTOR);
     }
     let rest = &step.input[step.at as usize..];
     let count = rest.len().min(count_within_word(seen.s4, seen.s5) as usize);
     let filled = splice(seen.s6, seen.s4 % 4, &rest[..count]);
-    step.touches.on_buffer(seen.s4, count as u32, filled);
+    touches.on_buffer(seen.s4, count as u32, filled);
     Outcome {
         took: count as u32,
-        ..step.sets(A0, count as u32)
+        ..step.sets(touches, A0, count as u32)
     }
 }
 
 /// From the buffer to standard output, or to standard error, which is not kept.
 #[tactic(auto, using(crate::proofs::Made::made))]
-fn write(step: &mut Step<'_, '_>) -> Outcome
-    requires { array_vec_len step.old.touches.list ≤ 1 }
-    ensures { AppendsExpected (isa.expected_write step.old.pc step.old.seen.now) step.old.touches.list.items step.new.touches.list.items result }
+fn write(step: &Step<'_, '_>, touches: &mut Touches) -> Outcome
+    requires { array_vec_len touches.old.list ≤ 1 }
+    ensures { AppendsExpected (isa.expected_write step.now.pc step.now.seen.now) touches.old.list.items touches.new.list.items result }
 {
     let seen = step.seen;
-    step.touches.read_arguments(seen);
+    touches.read_arguments(seen);
     match seen.s3 {
         1 => {
             let count = count_within_word(seen.s4, seen.s5);
-            step.touches.on_buffer(seen.s4, count, seen.s6);
+            touches.on_buffer(seen.s4, count, seen.s6);
             Outcome {
                 put: count,
                 word: from_lane(seen.s6, seen.s4 % 4, count),
-                ..step.sets(A0, count)
+                ..step.sets(touches, A0, count)
             }
         }
-        2 => step.sets(A0, seen.s5),
-        _ => step.sets(A0, BAD_DESCRIPTOR),
+        2 => step.sets(touches, A0, seen.s5),
+        _ => step.sets(touches, A0, BAD_DESCRIPTOR),
     }
 }

@@ -40,16 +40,16 @@ pub fn expect(version: u8, pc: u32, seen: &Seen, input: &[u8], at: u64) -> Expec
     ensures { RepresentsExpected (isa.expected version pc seen.now input.now at) result }
 {
     let decoded = Decoded::of_word(version, seen.s1);
-    let mut step = Step {
+    let step = Step {
         pc,
         seen,
         input,
         at,
-        touches: Touches::new(),
     };
-    let outcome = make(&mut step, decoded);
+    let mut touches = Touches::new();
+    let outcome = make(&step, &mut touches, decoded);
     Expected {
-        touches: step.touches.list,
+        touches: touches.list,
         next: outcome.next,
         end: outcome.end,
         took: outcome.took,
@@ -59,24 +59,24 @@ pub fn expect(version: u8, pc: u32, seen: &Seen, input: &[u8], at: u64) -> Expec
 }
 
 /// Makes a step that has no access yet, whose word is decoded.
-pub(crate) fn make(step: &mut Step<'_, '_>, decoded: Decoded) -> Outcome
-    requires begins { array_vec_len step.old.touches.list ≡ 0 }
-    requires within { step.old.at ≤ length step.old.input.now }
-    ensures { (version : ℕ) → any_of decoded ≡ decode_any version step.old.seen.now.s1 → AppendsExpected (isa.expected version step.old.pc step.old.seen.now step.old.input.now step.old.at) step.old.touches.list.items step.new.touches.list.items result }
+pub(crate) fn make(step: &Step<'_, '_>, touches: &mut Touches, decoded: Decoded) -> Outcome
+    requires begins { array_vec_len touches.old.list ≡ 0 }
+    requires within { step.now.at ≤ length step.now.input.now }
+    ensures { (version : ℕ) → any_of decoded ≡ decode_any version step.now.seen.now.s1 → AppendsExpected (isa.expected version step.now.pc step.now.seen.now step.now.input.now step.now.at) touches.old.list.items touches.new.list.items result }
 {
-    step.touches.touch(FETCH_SLOT, step.pc / 4, step.seen.s1);
-    after_fetch(step, decoded)
+    touches.touch(FETCH_SLOT, step.pc / 4, step.seen.s1);
+    after_fetch(step, touches, decoded)
 }
 
 /// The step of a decoded word.
-fn after_fetch(step: &mut Step<'_, '_>, decoded: Decoded) -> Outcome
-    requires room { array_vec_len step.old.touches.list ≤ 1 }
-    requires within { step.old.at ≤ length step.old.input.now }
-    ensures { AppendsExpected (isa.expected_any step.old.input.now step.old.at step.old.pc (any_of decoded) step.old.seen.now) step.old.touches.list.items step.new.touches.list.items result }
+fn after_fetch(step: &Step<'_, '_>, touches: &mut Touches, decoded: Decoded) -> Outcome
+    requires room { array_vec_len touches.old.list ≤ 1 }
+    requires within { step.now.at ≤ length step.now.input.now }
+    ensures { AppendsExpected (isa.expected_any step.now.input.now step.now.at step.now.pc (any_of decoded) step.now.seen.now) touches.old.list.items touches.new.list.items result }
 {
     match decoded {
-        Decoded::Rv32im(instr) => instruction(step, instr),
-        Decoded::Rv32a(instr) => atomic(step, instr),
+        Decoded::Rv32im(instr) => instruction(step, touches, instr),
+        Decoded::Rv32a(instr) => atomic(step, touches, instr),
         Decoded::Illegal => step.ends(ILLEGAL_WORD, 0),
     }
 }

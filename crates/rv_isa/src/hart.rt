@@ -2,6 +2,7 @@
 
 ghost use Rattle.std.specs.Prelude.{[], ℕ, List, ◌≡◌, ◌+◌, ◌%◌, ◌^◌, ◌<◌, ◌≤◌, length, map, OnOk, OnErr, IfOk};
 ghost use Rattle.std.specs.List.{AllByRecursion};
+ghost use Rattle.arrayvec.specs.ArrayVec.{array_vec_len};
 ghost use Rattle.rv_base.specs.declared.record.Tuple.{Tuple as TupleOf};
 ghost use Rattle.rv_spec.specs.Step.{State, start};
 ghost use Rattle.rv_spec.specs.Run.{next_state};
@@ -13,7 +14,6 @@ ghost use Rattle.rv_isa.specs.Hart.{TakesStepFrom, TakesTimes, left_after, row_f
 ghost use Rattle.rv_isa.specs.Look.{TellsStep};
 ghost use Rattle.rv_row.specs.RowReading.{row_view};
 
-use crate::accesses::Touches;
 use crate::expected::make;
 use crate::finding::find;
 use crate::look::{Look, row_accesses};
@@ -133,7 +133,8 @@ impl<'a> Hart<'a> {
         ensures times { (s : State) (before : List TupleOf) → StandsFor self.old s → IsTimed self.old before number → IfOk result (λ m. TakesTimes self.old.input s before number m self.new) }
         ensures err { OnErr result (self.new ≡ self.old) }
     {
-        let look = self.look();
+        let mut look = Look::new();
+        self.look(&mut look);
         let row = self.row(number, &look);
         self.carry_out(number, &look)?;
         Ok(Stepped {
@@ -152,25 +153,21 @@ impl<'a> Hart<'a> {
         self.cells.touched()
     }
 
-    /// Looks at the next step.
-    pub(crate) fn look(&self) -> Look
-        ensures tells { (s : State) → StandsFor self.now s → TellsStep self.now.input s result }
-        ensures most { result.outcome.put ≤ 4 }
+    /// Looks at the next step, and puts its accesses and where it goes into a look that has none.
+    pub(crate) fn look(&self, look: &mut Look)
+        requires begins { array_vec_len look.old.touches.list ≡ 0 }
+        requires none { look.old.touches.list.items ≡ [] }
+        ensures tells { (s : State) → StandsFor self.now s → TellsStep self.now.input s look.new }
+        ensures most { look.new.outcome.put ≤ 4 }
     {
         let found = find(&self.cells, self.pc);
-        let seen = found.seen;
-        let mut step = Step {
+        let step = Step {
             pc: self.pc,
-            seen: &seen,
+            seen: &found.seen,
             input: self.input,
             at: self.position,
-            touches: Touches::new(),
         };
-        let outcome = make(&mut step, found.decoded);
-        Look {
-            touches: step.touches,
-            outcome,
-        }
+        look.outcome = make(&step, &mut look.touches, found.decoded);
     }
 
     /// The row of the next step, which was looked at.

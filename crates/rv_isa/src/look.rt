@@ -20,6 +20,19 @@ pub(crate) struct Look {
     pub outcome: Outcome,
 }
 
+impl Look {
+    /// A step without accesses, which goes nowhere.
+    pub fn new() -> Look
+        ensures begins { array_vec_len result.touches.list ≡ 0 }
+        ensures none { result.touches.list.items ≡ [] }
+    {
+        Look {
+            touches: Touches::new(),
+            outcome: Outcome::goes_to(0),
+        }
+    }
+}
+
 /// The accesses of a row, as step number `number`, from the touches of the step and the cells before it.
 pub(crate) fn row_accesses(
     cells: &Memory<'_>,

@@ -85,7 +85,8 @@ impl<'a> Machine<'a> {
         if let Some(end) = self.ended {
             return Ok(Turn::Ends(end));
         }
-        let look = self.hart.look();
+        let mut look = Look::new();
+        self.hart.look(&mut look);
         if let Some(end) = look.outcome.end {
             self.ended = Some(end);
             return Ok(Turn::Ends(end));
@@ -135,6 +136,9 @@ fn carry_out(hart: &mut Hart<'_>, output: &mut Vec<u8>, look: &Look) -> Result<(
     ensures output { OnOk result (output.new.items ≡ output.old.items ++ take look.now.outcome.put (to_le_bytes w32 look.now.outcome.word)) }
     ensures err { OnErr result ((hart.new ≡ hart.old) × (output.new.items ≡ output.old.items)) }
 {
+    if look.outcome.put == 0 {
+        return hart.carry_out(0, look);
+    }
     let length = output.len();
     let bytes = look.outcome.word.to_le_bytes();
     output.extend_from_slice(&bytes[..look.outcome.put as usize])?;

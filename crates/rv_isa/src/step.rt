@@ -11,15 +11,14 @@ use rv_base::cells::RD_SLOT;
 use rv_base::machine::MISALIGNED_JUMP;
 use rv_base::{End, Seen};
 
-/// The instruction at `pc` with the old values in its slots, the input and the bytes of it that were
-/// read before, and the accesses so far.
-#[derive(Debug, Drop)]
+/// The instruction at `pc` with the old values in its slots, the input, and the bytes of it that were
+/// read before.
+#[derive(Clone, Copy, Debug)]
 pub(crate) struct Step<'s, 'i> {
     pub pc: u32,
     pub seen: &'s Seen,
     pub input: &'i [u8],
     pub at: u64,
-    pub touches: Touches,
 }
 
 /// The next instruction, the end if the step ends the run, the bytes of input that it takes, and
@@ -74,24 +73,24 @@ impl Step<'_, '_> {
     }
 
     /// A step that leaves a value in rd and goes on.
-    pub fn sets(&mut self, rd: u8, value: u32) -> Outcome
-        requires { array_vec_len self.old.touches.list < 8 }
-        ensures { AppendsExpected (isa.goes_to (isa.pc_plus_4 self.old.pc) (isa.on_register RD_SLOT rd value)) self.old.touches.list.items self.new.touches.list.items result }
+    pub fn sets(&self, touches: &mut Touches, rd: u8, value: u32) -> Outcome
+        requires { array_vec_len touches.old.list < 8 }
+        ensures { AppendsExpected (isa.goes_to (isa.pc_plus_4 self.now.pc) (isa.on_register RD_SLOT rd value)) touches.old.list.items touches.new.list.items result }
     {
-        self.touches.on_register(RD_SLOT, rd, value);
+        touches.on_register(RD_SLOT, rd, value);
         self.goes_on()
     }
 
     /// A jump writes only where its target is aligned.
-    pub fn jumps(&mut self, target: u32, rd: u8) -> Outcome
-        requires { array_vec_len self.old.touches.list < 8 }
-        ensures { AppendsExpected (isa.jumps self.old.pc target [] (isa.on_register RD_SLOT rd (isa.pc_plus_4 self.old.pc))) self.old.touches.list.items self.new.touches.list.items result }
+    pub fn jumps(&self, touches: &mut Touches, target: u32, rd: u8) -> Outcome
+        requires { array_vec_len touches.old.list < 8 }
+        ensures { AppendsExpected (isa.jumps self.now.pc target [] (isa.on_register RD_SLOT rd (isa.pc_plus_4 self.now.pc))) touches.old.list.items touches.new.list.items result }
     {
         if target % 4 != 0 {
             return self.ends(MISALIGNED_JUMP, 0);
         }
         let link = self.pc_plus_4();
-        self.touches.on_register(RD_SLOT, rd, link);
+        touches.on_register(RD_SLOT, rd, link);
         Outcome::goes_to(target)
     }
 

@@ -120,17 +120,17 @@ used-no_page i d pages p e = used-none (paged_word i d pages) (16 * p) 16 (λ k 
     ap (λ (v : Word). v.time) none)
 
 -- a block of pages has 4096 words, and a table of the directory has 512 blocks
-pub used-no_leaf : (i : Image) (d : Directory) (pages : List Page) (block : ℕ) → block_number d.blocks.entries.items block ≡ 0 → used (paged_word i d pages) (4096 * block) 4096 ≡ []
+pub used-no_leaf : (i : Image) (d : Directory) (pages : List Page) (block : ℕ) → block_number d.levels.blocks.entries.items block ≡ 0 → used (paged_word i d pages) (4096 * block) 4096 ≡ []
 used-no_leaf i d pages block e = used-none (paged_word i d pages) (4096 * block) 4096 (λ k within.
     let at : (4096 * block + k) / 16 / 256 ≡ block = omega arith in
-    let none = word-none i d pages (4096 * block + k) (number-none d.blocks.entries.items d.leaves.items ((4096 * block + k) / 16) (ap (block_number d.blocks.entries.items) at ∙ e)) in
+    let none = word-none i d pages (4096 * block + k) (number-none d.levels.blocks.entries.items d.levels.leaves.items ((4096 * block + k) / 16) (ap (block_number d.levels.blocks.entries.items) at ∙ e)) in
     ap (λ (v : Word). v.time) none)
 
-pub used-no_table : (i : Image) (d : Directory) (pages : List Page) (table : ℕ) → get_or d.blocks.entries.items table 0 ≡ 0 → used (paged_word i d pages) (2097152 * table) 2097152 ≡ []
+pub used-no_table : (i : Image) (d : Directory) (pages : List Page) (table : ℕ) → get_or d.levels.blocks.entries.items table 0 ≡ 0 → used (paged_word i d pages) (2097152 * table) 2097152 ≡ []
 used-no_table i d pages table e = used-none (paged_word i d pages) (2097152 * table) 2097152 (λ k within.
     let at : (2097152 * table + k) / 16 / 256 / 512 ≡ table = omega arith in
     let none = word-none i d pages (2097152 * table + k)
-    (number-none d.blocks.entries.items d.leaves.items ((2097152 * table + k) / 16) (tables.number-none d.blocks.entries.items ((2097152 * table + k) / 16 / 256) (ap (λ j. get_or d.blocks.entries.items j 0) at ∙ e))) in
+    (number-none d.levels.blocks.entries.items d.levels.leaves.items ((2097152 * table + k) / 16) (tables.number-none d.levels.blocks.entries.items ((2097152 * table + k) / 16 / 256) (ap (λ j. get_or d.levels.blocks.entries.items j 0) at ∙ e))) in
     ap (λ (v : Word). v.time) none)
 
 -- a word of the image, before any step
@@ -182,7 +182,7 @@ next-block f table place =
     next-stretch f (2097152 * table) 4096 place
     ∙ ap (λ k. used f (2097152 * table) (4096 * place) ++ used f k 4096) (let k : 2097152 * table + 4096 * place ≡ 4096 * (512 * table + place) = omega arith in k)
 
-pub next-no_block : (i : Image) (d : Directory) (pages : List Page) (table place : ℕ) → block_number d.blocks.entries.items (512 * table + place) ≡ 0
+pub next-no_block : (i : Image) (d : Directory) (pages : List Page) (table place : ℕ) → block_number d.levels.blocks.entries.items (512 * table + place) ≡ 0
     → used (paged_word i d pages) (2097152 * table) (4096 * (place + 1)) ≡ used (paged_word i d pages) (2097152 * table) (4096 * place)
 next-no_block i d pages table place e =
     no-stretch (paged_word i d pages) (2097152 * table) 4096 place
@@ -191,12 +191,12 @@ next-no_block i d pages table place e =
 pub next-table : (f : ℕ → Word) (table : ℕ) → used f 0 (2097152 * (table + 1)) ≡ used f 0 (2097152 * table) ++ used f (2097152 * table) 2097152
 next-table f table = next-stretch f 0 2097152 table ∙ ap (λ k. used f 0 (2097152 * table) ++ used f k 2097152) (let k : 0 + 2097152 * table ≡ 2097152 * table = omega arith in k)
 
-pub next-no_table : (i : Image) (d : Directory) (pages : List Page) (table : ℕ) (made : Bool) → made ≡ false → (0 < get_or d.blocks.entries.items table 0 → IsTrue made)
+pub next-no_table : (i : Image) (d : Directory) (pages : List Page) (table : ℕ) (made : Bool) → made ≡ false → (0 < get_or d.levels.blocks.entries.items table 0 → IsTrue made)
     → used (paged_word i d pages) 0 (2097152 * (table + 1)) ≡ used (paged_word i d pages) 0 (2097152 * table)
 next-no_table i d pages table made e told =
     no-stretch (paged_word i d pages) 0 2097152 table
     (ap (λ k. used (paged_word i d pages) k 2097152) (let k : 0 + 2097152 * table ≡ 2097152 * table = omega arith in k)
-    ∙ used-no_table i d pages table (no-number made e (get_or d.blocks.entries.items table 0) told))
+    ∙ used-no_table i d pages table (no-number made e (get_or d.levels.blocks.entries.items table 0) told))
   where
     no-number : (b : Bool) → b ≡ false → (n : ℕ) → (0 < n → IsTrue b) → n ≡ 0
     no-number true f n h = absurd (true≢false f)

@@ -1,6 +1,8 @@
 pub mod Contents
 pub mod Blocks
 pub mod Directory
+pub mod Levels
+pub mod Recent
 pub mod Paged
 pub mod StoredCells
 pub mod Used

@@ -4,6 +4,7 @@
 mod blocks;
 mod directory;
 mod leaving;
+mod levels;
 mod memory;
 mod page;
 mod word;

@@ -6,7 +6,8 @@ ghost use Rattle.rv_mem.specs.Used.{no_word, used};
 ghost use Rattle.rv_mem.specs.Words.{ArePages, first_word};
 
 use crate::blocks::ENTRIES;
-use crate::directory::{Directory, LEAF};
+use crate::directory::Directory;
+use crate::levels::LEAF;
 use crate::page::{Page, list_used};
 use crate::word::Word;
 use rv_base::cells::REGISTER_CELLS;
@@ -68,7 +69,7 @@ impl<'a> Words<'a> {
         ensures same { (v : ℕ) → v < REGISTER_CELLS → stored_word self.new v ≡ stored_word self.old v }
     {
         let page = w as usize / 16;
-        if self.directory.find(page).is_none() {
+        if self.directory.recall(page).is_none() {
             self.add_page(page)?;
         }
         Ok(())
@@ -113,7 +114,7 @@ impl<'a> Words<'a> {
     {
         let mut entries = Vec::new(*self.pages.allocator());
         for table in 0..ENTRIES {
-            if self.directory.blocks.has_table(table) {
+            if self.directory.levels.blocks.has_table(table) {
                 self.table_touched(table, &mut entries)?;
             }
         }
@@ -127,7 +128,7 @@ impl<'a> Words<'a> {
     {
         for place in 0..ENTRIES {
             let block = ENTRIES * table + place;
-            if self.directory.blocks.find(block).is_some() {
+            if self.directory.levels.blocks.find(block).is_some() {
                 self.block_touched(block, entries)?;
             }
         }

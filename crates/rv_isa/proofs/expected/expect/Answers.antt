@@ -7,7 +7,7 @@ returns c =
     let m = c.make-outcome.ensures c.args.version c.of_word-decoded.ensures in
     let e = isa.expected c.args.version c.args.pc c.args.seen.now c.args.input.now c.args.at in
     record {
-      touches = m.touches ∙ ap (λ l. l ++ e.touches) c.new.ensures.items;
+      touches = m.touches ∙ ap (λ l. l ++ e.touches) c.new-touches.ensures.items;
       next = m.next;
       end = m.end;
       took = m.took;

@@ -11,12 +11,12 @@ returns c version is =
     let p = c.args.step.now in
     let any : Option AnyInstr → isa.Expected = λ (x : Option AnyInstr). isa.expected_any p.input.now p.at p.pc x p.seen.now in
     let first = c.touch.new.self.list.items in
-    let last = c.after_fetch.new.step.touches.list.items in
+    let last = c.after_fetch.new.touches.list.items in
     let o = c.after_fetch.result in
     let m : AppendsExpected (any (decode_any version p.seen.now.s1)) first last o = subst (λ (x : Option AnyInstr). AppendsExpected (any x) first last o) is c.after_fetch.ensures in
     let rest = (any (decode_any version p.seen.now.s1)).touches in
     record {
-      touches = m.touches ∙ ap (λ l. l ++ rest) c.touch.ensures.items ∙ append_assoc p.touches.list.items (isa.touch FETCH_SLOT (p.pc / 4) p.seen.now.s1) rest;
+      touches = m.touches ∙ ap (λ l. l ++ rest) c.touch.ensures.items ∙ append_assoc c.args.touches.now.list.items (isa.touch FETCH_SLOT (p.pc / 4) p.seen.now.s1) rest;
       next = m.next;
       end = m.end;
       took = m.took;

@@ -21,7 +21,7 @@ loop-place-preserved c =
           appended _ _ _ _ _ _ (ap (λ v. v.items) w.entries-is ∙ w.in_ok-block_touched.ensures) c.loop-place.invariant
           (next-block (stored_word c.args.self.now) c.args.table c.loop-place.place)
       | else-is_some w ↦
-          let none : block_number c.args.self.now.directory.blocks.entries.items (512 * c.args.table + c.loop-place.place) ≡ 0 =
+          let none : block_number c.args.self.now.directory.levels.blocks.entries.items (512 * c.args.table + c.loop-place.place) ≡ 0 =
           none-of c.find.result _ _ c.find.ensures (sym c.is_some.ensures ∙ w.if-is_some.false) in
           ap (λ v. v.items) w.entries-is ∙ c.loop-place.invariant
           ∙ ap (λ l. c.args.entries.now.items ++ l) (sym (next-no_block c.args.self.now.image c.args.self.now.directory c.args.self.now.pages.items c.args.table c.loop-place.place none))

@@ -1,6 +1,6 @@
 use Rattle.std.proofs.Common.{◌≡◌, ◌+◌, ◌/◌, ◌∙◌, length, refl, arith}
 use Rattle.rv_mem.proofs.DirectoryLaws.{number-same, number-leaf}
-use Rattle.rv_mem.proofs.directory.Directory.add_leaf.Goals as goal
+use Rattle.rv_mem.proofs.levels.Levels.add_leaf.Goals as goal
 
 pub returns-in_err-reserve-clause-same : goal.returns-in_err-reserve-clause-same
 returns-in_err-reserve-clause-same c = number-same _ _ _ _ c.reserve.ensures.same (λ k. refl)
