@@ -50,12 +50,11 @@ fn begin<'a>(
 {
     let image = image.copy();
     let hart = Hart::resume(alloc, &image, input, start.place, start.cells.list())?;
-    let pairing = Pairing::new(alloc)?;
     let mut bytes = Vec::new(alloc);
     bytes.extend_from_slice(&[0; HEAD_BYTES])?;
     Ok(Making {
         hart,
-        pairing,
+        pairing: Pairing::new(),
         bytes,
         put: 0,
     })
@@ -63,7 +62,7 @@ fn begin<'a>(
 
 /// Writes the head before the rows and the digests behind them.
 fn finish<L: Lanes>(
-    mut making: Making<'_>,
+    making: Making<'_>,
     start: &ShardStart,
     lanes: &L,
 ) -> Result<Piece, NoMemory>
@@ -84,7 +83,7 @@ fn finish<L: Lanes>(
         input: making.hart.position(),
         output: start.place.output + making.put,
     };
-    let (reads, writes) = making.pairing.take(lanes);
+    let (reads, writes) = making.pairing.digests(lanes);
     let bytes = spell(making.bytes, &head, &reads, &writes)?;
     Ok(Piece {
         index: start.index,
