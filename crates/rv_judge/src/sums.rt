@@ -7,8 +7,8 @@ ghost use Rattle.rv_rules.specs.Sums.{tiny_lanes};
 ghost use Rattle.rv_reading.specs.Machine.{no_sums, with_sums, with_tuples};
 ghost use Rattle.rv_judge.specs.Phases.{sums_in, sums_of};
 
-use rv_base::layout::DIGEST_BYTES;
 use rv_base::Tuple;
+use rv_base::layout::DIGEST_BYTES;
 use rv_digest::{Lanes, SetDigest};
 use rv_pairs::Pairing;
 

@@ -10,6 +10,7 @@ use Rattle.rv_pairs.specs.declared.pairing.Pairing.{Pairing}
 unfoldable pub with_tuples : Lanes → List ℕ → List Tuple → List ℕ
 with_tuples lanes sum ts = add_lanes sum (digest lanes ts)
 
+-- a sum of two lists
 unfoldable pub joined : List ℕ → List ℕ → List ℕ
 joined sum other = add_lanes sum other
 
@@ -29,4 +30,3 @@ written_digest lanes p = with_tuples lanes (joined (total lanes p.writes) (total
 pub record Covers (lanes : Lanes) (p : Pairing) (rs ws : List Tuple) : Type 0 where
   pub reads : read_digest lanes p ≡ digest lanes rs
   pub writes : written_digest lanes p ≡ digest lanes ws
-

@@ -61,11 +61,7 @@ fn begin<'a>(
 }
 
 /// Writes the head before the rows and the digests behind them.
-fn finish<L: Lanes>(
-    making: Making<'_>,
-    start: &ShardStart,
-    lanes: &L,
-) -> Result<Piece, NoMemory>
+fn finish<L: Lanes>(making: Making<'_>, start: &ShardStart, lanes: &L) -> Result<Piece, NoMemory>
     requires start { IsStartOf making.hart.cells.image making.hart.input start.now }
     requires made { HasMade L.lanes making.hart.cells.image making.hart.input start.now.step start.now.rows start.now.rows making }
     ensures { IfOk result (λ p. p ≡ piece_of L.lanes making.entry.hart.cells.image making.entry.hart.input start.now.index start.now.step start.now.rows) }

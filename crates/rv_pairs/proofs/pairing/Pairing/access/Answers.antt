@@ -34,15 +34,15 @@ returns-after-eq-clause-writes g c =
           let d : Tuple = record { cell = 0; value = 0; time = 0 } in
           let same : get_or p.waiting at d ≡ c.args.read = search rules in
           rw w.self-is (
-            ap (λ (z : List ℕ). with_tuples lanes (joined writes z) now) w.add.ensures
-            ∙ ap (λ (z : List ℕ). with_tuples lanes z now) (joined-right lanes writes both (c.args.read ∷ []))
-            ∙ one-instead lanes (joined writes both) p.waiting p.count at c.args.read c.args.written _ below inside (sym same)
+          ap (λ (z : List ℕ). with_tuples lanes (joined writes z) now) w.add.ensures
+          ∙ ap (λ (z : List ℕ). with_tuples lanes z now) (joined-right lanes writes both (c.args.read ∷ []))
+          ∙ one-instead lanes (joined writes both) p.waiting p.count at c.args.read c.args.written _ below inside (sym same)
           )
       | else-eq w ↦
           rw w.self-is (
-            ap (λ (z : List ℕ). with_tuples lanes (joined z both) now) w.add-else-eq.ensures
-            ∙ ap (λ (z : List ℕ). with_tuples lanes z now) (joined-left lanes writes both _)
-            ∙ one-instead lanes (joined writes both) p.waiting p.count at _ c.args.written _ below inside refl
+          ap (λ (z : List ℕ). with_tuples lanes (joined z both) now) w.add-else-eq.ensures
+          ∙ ap (λ (z : List ℕ). with_tuples lanes z now) (joined-left lanes writes both _)
+          ∙ one-instead lanes (joined writes both) p.waiting p.count at _ c.args.written _ below inside refl
           )
     ]
 

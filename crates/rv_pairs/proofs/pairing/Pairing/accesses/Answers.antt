@@ -20,12 +20,11 @@ loop-access-preserved g c =
     let a = get_or all j d in
     let step = c.args.step in
     let there : j < length all = c.loop-access-test.true in
-    let is : record { cell = a.cell; value = a.new; time = c.time_of.result } ≡ tuple_written (event step a) = λ i. record { cell = a.cell; value = a.new; time = c.time_of.ensures i } in
-    (
+    let is : record { cell = a.cell; value = a.new; time = c.time_of.result } ≡ tuple_written (event step a) = λ i. record { cell = a.cell; value = a.new; time = c.time_of.ensures i } in (
       step-more lanes (read_digest lanes c.args.self.now) (read_digest lanes c.loop-access.self) (read_digest lanes c.access.new.self) (map tuple_read (map (event step) (take j all))) (map tuple_read (map (event step) (take (j + 1) all))) _
-      c.loop-access.invariant.0 c.access.ensures.reads (one-access (event step) tuple_read all j d _ there refl),
+          c.loop-access.invariant.0 c.access.ensures.reads (one-access (event step) tuple_read all j d _ there refl),
       step-more lanes (written_digest lanes c.args.self.now) (written_digest lanes c.loop-access.self) (written_digest lanes c.access.new.self) (map tuple_written (map (event step) (take j all))) (map tuple_written (map (event step) (take (j + 1) all))) _
-      c.loop-access.invariant.1 c.access.ensures.writes (one-access (event step) tuple_written all j d _ there is),
+          c.loop-access.invariant.1 c.access.ensures.writes (one-access (event step) tuple_written all j d _ there is),
     )
 
 pub returns-clause-covers : goal.returns-clause-covers
