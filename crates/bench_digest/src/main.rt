@@ -78,10 +78,11 @@ fn as_a_list(tuples: &[Tuple]) -> SetDigest {
 
 #[inline(never)]
 fn paired(pairing: &mut Pairing, run: &Run) -> (SetDigest, SetDigest) {
+    pairing.clear();
     for (read, written) in run.reads.iter().zip(run.writes.iter()) {
         pairing.access(&ShaLanes, *read, *written);
     }
-    pairing.take(&ShaLanes)
+    pairing.digests(&ShaLanes)
 }
 
 /// The least seconds of each way.
@@ -142,7 +143,7 @@ fn print_lanes(rt: &HostRuntime, run: &Run, pairing: &mut Pairing) -> io::Result
 
 fn main(rt: HostRuntime) -> io::Result<()> {
     let alloc = rt.alloc();
-    let mut pairing = Pairing::new(alloc)?;
+    let mut pairing = Pairing::new();
     let Some(word) = env::args(&rt)?.nth(1) else {
         let run = run_of(alloc, 99)?;
         return print_lanes(&rt, &run, &mut pairing);

@@ -4,6 +4,6 @@ pub mod Headers
 pub mod Lemmas
 pub mod PartsAlone
 pub mod ReadingOn
+pub mod ShardSums
 pub mod StepFound
-pub mod TuplesTaken
 pub mod WholeFile

@@ -53,10 +53,10 @@ pub record BehindShards (m : Machine) (p : Place) (sums : machine.Sums) : Type 0
   pub place : m.place ≡ p
   pub all : sums_of m.all ≡ sums
 
-behind-shards : (m : Machine) (n i : ℕ) (p : Place) (sums : machine.Sums) → phase_of m ≡ ShardsOf n i p sums → BehindShards m p sums
-behind-shards m n i p sums e = go m.phase e
+behind-shards : (lanes : Lanes) (m : Machine) (n i : ℕ) (p : Place) (sums : machine.Sums) → phase_of lanes m ≡ ShardsOf n i p sums → BehindShards m p sums
+behind-shards lanes m n i p sums e = go m.phase e
   where
-    go : (q : Phase) → phase_at q m.place m.shard m.all ≡ ShardsOf n i p sums → BehindShards m p sums
+    go : (q : Phase) → phase_at lanes q m.place m.shard m.all ≡ ShardsOf n i p sums → BehindShards m p sums
     go (Shards left next) f = record { place = cc; all = cc }
     go (Rows r) f = absurd cc
     go (Entries left next before) f = absurd cc
@@ -82,16 +82,16 @@ module _ (lanes : Lanes) (s : Subject) (i : ℕ) (bytes : List ℕ) where
   abbrev seen_of : Reading Shard → machine.Phase × List ℕ
   seen_of x = (ShardsOf 0 (i + 1) x.place (event_sums true lanes (events (i * s.header.size) x.part.rows)), x.left)
 
-  module _ (m : Machine) (p : Place) (old : machine.Phase) (left : List ℕ) (o : Option Refusal) (stops : step_to lanes s ShardsAlone (phase_of m) left ≡ stopped o)
-      (goes : (rest : List ℕ) → reads (step_to lanes s ShardsAlone) (phase_of m) (left ++ rest) ≡ reads (step_to lanes s ShardsAlone) old (bytes ++ rest)) (begun : old ≡ ShardsOf 1 i p no_sums) where
-    shard-stops : (read_shard true lanes s.elf s.input s.header s.output i p bytes >>= λ x. Ok (seen_of x)) ≡ state_at o (phase_of m) left
+  module _ (m : Machine) (p : Place) (old : machine.Phase) (left : List ℕ) (o : Option Refusal) (stops : step_to lanes s ShardsAlone (phase_of lanes m) left ≡ stopped o)
+      (goes : (rest : List ℕ) → reads (step_to lanes s ShardsAlone) (phase_of lanes m) (left ++ rest) ≡ reads (step_to lanes s ShardsAlone) old (bytes ++ rest)) (begun : old ≡ ShardsOf 1 i p no_sums) where
+    shard-stops : (read_shard true lanes s.elf s.input s.header s.output i p bytes >>= λ x. Ok (seen_of x)) ≡ state_at o (phase_of lanes m) left
     shard-stops =
         sym (shard-alone-is-read true lanes s.elf s.input s.header s.output i p bytes)
         ∙ ap (λ (q : machine.Phase). reads (step_to lanes s ShardsAlone) q bytes) (sym begun)
-        ∙ stops-at lanes s ShardsAlone old (phase_of m) bytes left o stops goes
+        ∙ stops-at lanes s ShardsAlone old (phase_of lanes m) bytes left o stops goes
 
     pub shard-refused : (r : Refusal) → o ≡ Some r → read_shard true lanes s.elf s.input s.header s.output i p bytes ≡ Err r
-    shard-refused r is = bind-err (read_shard true lanes s.elf s.input s.header s.output i p bytes) seen_of r (shard-stops ∙ ap (λ q. state_at q (phase_of m) left) is)
+    shard-refused r is = bind-err (read_shard true lanes s.elf s.input s.header s.output i p bytes) seen_of r (shard-stops ∙ ap (λ q. state_at q (phase_of lanes m) left) is)
 
     pub record ShardRead (x : Reading Shard) : Type 0 where
       pub is : read_shard true lanes s.elf s.input s.header s.output i p bytes ≡ Ok x
@@ -100,10 +100,10 @@ module _ (lanes : Lanes) (s : Subject) (i : ℕ) (bytes : List ℕ) where
 
     pub shard-read : o ≡ None → (x : Reading Shard) × ShardRead x
     shard-read is =
-        let a = bind-ok (read_shard true lanes s.elf s.input s.header s.output i p bytes) (λ x. Ok (seen_of x)) (phase_of m, left) (shard-stops ∙ ap (λ q. state_at q (phase_of m) left) is) in
+        let a = bind-ok (read_shard true lanes s.elf s.input s.header s.output i p bytes) (λ x. Ok (seen_of x)) (phase_of lanes m, left) (shard-stops ∙ ap (λ q. state_at q (phase_of lanes m) left) is) in
         let x = a.0 in
-        let parts = ok-pair (seen_of x).0 (phase_of m) x.left left a.2 in
-        (x, record { is = a.1; behind = behind-shards m 0 (i + 1) x.place (event_sums true lanes (events (i * s.header.size) x.part.rows)) (sym parts.0); rest = parts.1 })
+        let parts = ok-pair (seen_of x).0 (phase_of lanes m) x.left left a.2 in
+        (x, record { is = a.1; behind = behind-shards lanes m 0 (i + 1) x.place (event_sums true lanes (events (i * s.header.size) x.part.rows)) (sym parts.0); rest = parts.1 })
 
   -- a shard that is read has the head that its bytes spell
   made : Reading (List Row) → Reading Shard
@@ -138,10 +138,10 @@ pub record BehindTable (m : Machine) (n : ℕ) (sums : machine.Sums) : Type 0 wh
   pub entries : entries_in m.phase ≡ n
   pub all : sums_of m.all ≡ sums
 
-behind-table : (m : Machine) (n : ℕ) (before : Option ℕ) (p : Place) (sums : machine.Sums) → phase_of m ≡ EntriesOf 0 n before p sums → BehindTable m n sums
-behind-table m n before p sums e = go m.phase refl e
+behind-table : (lanes : Lanes) (m : Machine) (n : ℕ) (before : Option ℕ) (p : Place) (sums : machine.Sums) → phase_of lanes m ≡ EntriesOf 0 n before p sums → BehindTable m n sums
+behind-table lanes m n before p sums e = go m.phase refl e
   where
-    go : (q : Phase) → m.phase ≡ q → phase_at q m.place m.shard m.all ≡ EntriesOf 0 n before p sums → BehindTable m n sums
+    go : (q : Phase) → m.phase ≡ q → phase_at lanes q m.place m.shard m.all ≡ EntriesOf 0 n before p sums → BehindTable m n sums
     go (Shards left next) at f = absurd cc
     go (Rows r) at f = absurd cc
     go (Entries left next above) at f = let same : next ≡ n = cc in record { entries = ap entries_in at ∙ same; all = cc }
@@ -154,17 +154,17 @@ module _ (lanes : Lanes) (s : Subject) (bytes : List ℕ) where
   joined (Ok a) f k = refl
   joined (Err e) f k = refl
 
-  module _ (m : Machine) (i : ℕ) (p : Place) (old : machine.Phase) (left : List ℕ) (o : Option Refusal) (stops : step_to lanes s TableAlone (phase_of m) left ≡ stopped o)
-      (goes : (rest : List ℕ) → reads (step_to lanes s TableAlone) (phase_of m) (left ++ rest) ≡ reads (step_to lanes s TableAlone) old (bytes ++ rest)) (begun : old ≡ ShardsOf 0 i p no_sums) where
-    table-stops : (read_table s.header bytes >>= λ x. Ok (seen_table p x)) ≡ state_at o (phase_of m) left
+  module _ (m : Machine) (i : ℕ) (p : Place) (old : machine.Phase) (left : List ℕ) (o : Option Refusal) (stops : step_to lanes s TableAlone (phase_of lanes m) left ≡ stopped o)
+      (goes : (rest : List ℕ) → reads (step_to lanes s TableAlone) (phase_of lanes m) (left ++ rest) ≡ reads (step_to lanes s TableAlone) old (bytes ++ rest)) (begun : old ≡ ShardsOf 0 i p no_sums) where
+    table-stops : (read_table s.header bytes >>= λ x. Ok (seen_table p x)) ≡ state_at o (phase_of lanes m) left
     table-stops =
         sym (joined (unless_broken s.header.shards 0 ((1, nat_le 4 (length bytes)) ∷ []) (drop 4 bytes)) (read_entries (u32_at bytes 0) s.header 0 None) (seen_table p))
         ∙ sym (table-alone-is-read true lanes s.elf s.input s.header s.output i p bytes)
         ∙ ap (λ (q : machine.Phase). reads (step_to lanes s TableAlone) q bytes) (sym begun)
-        ∙ stops-at lanes s TableAlone old (phase_of m) bytes left o stops goes
+        ∙ stops-at lanes s TableAlone old (phase_of lanes m) bytes left o stops goes
 
     pub table-refused : (r : Refusal) → o ≡ Some r → read_table s.header bytes ≡ Err r
-    table-refused r is = bind-err (read_table s.header bytes) (seen_table p) r (table-stops ∙ ap (λ q. state_at q (phase_of m) left) is)
+    table-refused r is = bind-err (read_table s.header bytes) (seen_table p) r (table-stops ∙ ap (λ q. state_at q (phase_of lanes m) left) is)
 
     pub record TableRead (x : List TableEntry × List ℕ) : Type 0 where
       pub is : read_table s.header bytes ≡ Ok x
@@ -173,7 +173,7 @@ module _ (lanes : Lanes) (s : Subject) (bytes : List ℕ) where
 
     pub table-read : o ≡ None → (x : List TableEntry × List ℕ) × TableRead x
     table-read is =
-        let a = bind-ok (read_table s.header bytes) (λ x. Ok (seen_table p x)) (phase_of m, left) (table-stops ∙ ap (λ q. state_at q (phase_of m) left) is) in
+        let a = bind-ok (read_table s.header bytes) (λ x. Ok (seen_table p x)) (phase_of lanes m, left) (table-stops ∙ ap (λ q. state_at q (phase_of lanes m) left) is) in
         let x = a.0 in
-        let parts = ok-pair (seen_table p x).0 (phase_of m) x.1 left a.2 in
-        (x, record { is = a.1; behind = behind-table m (u32_at bytes 0) (last_cell None x.0) p (tuple_sums true lanes (map tuple_last x.0) (map (first_tuple s.elf s.header) x.0)) (sym parts.0); rest = parts.1 })
+        let parts = ok-pair (seen_table p x).0 (phase_of lanes m) x.1 left a.2 in
+        (x, record { is = a.1; behind = behind-table lanes m (u32_at bytes 0) (last_cell None x.0) p (tuple_sums true lanes (map tuple_last x.0) (map (first_tuple s.elf s.header) x.0)) (sym parts.0); rest = parts.1 })

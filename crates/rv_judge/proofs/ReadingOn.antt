@@ -10,8 +10,8 @@ use Rattle.rv_judge.specs.declared.phases.Phase.{Phase}
 use Rattle.rv_judge.specs.Subject.{Subject, step, step_to}
 use Rattle.rv_judge.specs.Phases.{Went, phase_at, phase_of}
 
-pub went-at : (lanes : Lanes) (s : Subject) (m new : Machine) (q : Phase) (bytes : List ℕ) (n : ℕ) → m.phase ≡ q → Went lanes s (phase_at q m.place m.shard m.all) new bytes n → Went lanes s (phase_of m) new bytes n
-went-at lanes s m new q bytes n is w = subst (λ (z : Phase). Went lanes s (phase_at z m.place m.shard m.all) new bytes n) (sym is) w
+pub went-at : (lanes : Lanes) (s : Subject) (m new : Machine) (q : Phase) (bytes : List ℕ) (n : ℕ) → m.phase ≡ q → Went lanes s (phase_at lanes q m.place m.shard m.all) new bytes n → Went lanes s (phase_of lanes m) new bytes n
+went-at lanes s m new q bytes n is w = subst (λ (z : Phase). Went lanes s (phase_at lanes z m.place m.shard m.all) new bytes n) (sym is) w
 
 module _ (lanes : Lanes) (s : Subject) (extent : machine.Extent) where
   pub is-stream : IsStream machine.Phase (step_to lanes s extent)
@@ -38,20 +38,20 @@ last-of-all n xs all le within is =
     ∙ drop-drop n (length all - length xs) all
     ∙ ap (λ k. drop k all) (let e : length all - length xs + n ≡ length all - length (drop n xs) = omega (arith, le, within, length-drop n xs) in e)
 
-module _ (lanes : Lanes) (s : Subject) (extent : machine.Extent) (m new first : Machine) (left all : List ℕ) (n : ℕ) (reading : machine.is_behind extent (phase_of m) ≡ false) (w : Went lanes s (phase_of m) new left n) where
+module _ (lanes : Lanes) (s : Subject) (extent : machine.Extent) (m new first : Machine) (left all : List ℕ) (n : ℕ) (reading : machine.is_behind extent (phase_of lanes m) ≡ false) (w : Went lanes s (phase_of lanes m) new left n) where
   abbrev rest_of : List ℕ
   rest_of = take (length left - n) (drop n left)
 
   pub smaller : length rest_of < length left
   smaller =
-      let less = (is-stream lanes s extent).takes (phase_of m) (phase_of new) left (drop n left) (not-behind lanes s extent (phase_of m) left reading ∙ w.found) in
+      let less = (is-stream lanes s extent).takes (phase_of lanes m) (phase_of lanes new) left (drop n left) (not-behind lanes s extent (phase_of lanes m) left reading ∙ w.found) in
       subst (λ (zs : List ℕ). length zs < length left) (sym (behind n left)) less
 
-  pub goes : ((rest : List ℕ) → reads (step_to lanes s extent) (phase_of m) (left ++ rest) ≡ reads (step_to lanes s extent) (phase_of first) (all ++ rest))
-      → (rest : List ℕ) → reads (step_to lanes s extent) (phase_of new) (rest_of ++ rest) ≡ reads (step_to lanes s extent) (phase_of first) (all ++ rest)
+  pub goes : ((rest : List ℕ) → reads (step_to lanes s extent) (phase_of lanes m) (left ++ rest) ≡ reads (step_to lanes s extent) (phase_of lanes first) (all ++ rest))
+      → (rest : List ℕ) → reads (step_to lanes s extent) (phase_of lanes new) (rest_of ++ rest) ≡ reads (step_to lanes s extent) (phase_of lanes first) (all ++ rest)
   goes before rest =
-      ap (λ (zs : List ℕ). reads (step_to lanes s extent) (phase_of new) (zs ++ rest)) (behind n left)
-      ∙ goes-on lanes s extent (phase_of m) (phase_of new) left (drop n left) rest reading w.found
+      ap (λ (zs : List ℕ). reads (step_to lanes s extent) (phase_of lanes new) (zs ++ rest)) (behind n left)
+      ∙ goes-on lanes s extent (phase_of lanes m) (phase_of lanes new) left (drop n left) rest reading w.found
       ∙ before rest
 
   pub is-within : length left ≤ length all → length rest_of ≤ length all

@@ -82,17 +82,17 @@ module _ (lanes : Lanes) (s : Subject) where
 -- ---- more bytes
 
 module _ (lanes : Lanes) (first cur : Reading) (xs ys : List ℕ) (on : ReadOn lanes first cur xs) where
-  regrouped : (rest : List ℕ) → reads (step lanes cur.subject) (phase_of cur.machine) ((cur.buffer.items ++ ys) ++ rest) ≡ reads (step lanes first.subject) (phase_of first.machine) ((xs ++ ys) ++ rest)
+  regrouped : (rest : List ℕ) → reads (step lanes cur.subject) (phase_of lanes cur.machine) ((cur.buffer.items ++ ys) ++ rest) ≡ reads (step lanes first.subject) (phase_of lanes first.machine) ((xs ++ ys) ++ rest)
   regrouped rest =
-      (λ i. reads (step lanes (on.subject i)) (phase_of cur.machine) (append_assoc cur.buffer.items ys rest i))
+      (λ i. reads (step lanes (on.subject i)) (phase_of lanes cur.machine) (append_assoc cur.buffer.items ys rest i))
       ∙ on.goes (ys ++ rest)
-      ∙ ap (λ (z : List ℕ). reads (step lanes first.subject) (phase_of first.machine) z) (sym (append_assoc xs ys rest))
+      ∙ ap (λ (z : List ℕ). reads (step lanes first.subject) (phase_of lanes first.machine) z) (sym (append_assoc xs ys rest))
 
   pub on-and-on : (new : Reading) → ReadOn lanes cur new (cur.buffer.items ++ ys) → ReadOn lanes first new (xs ++ ys)
   on-and-on new more = record {
     is = more.is;
     subject = more.subject ∙ on.subject;
-    goes = λ rest. ap (λ (z : Subject). reads (step lanes z) (phase_of new.machine) (new.buffer.items ++ rest)) (sym on.subject) ∙ more.goes rest ∙ regrouped rest;
+    goes = λ rest. ap (λ (z : Subject). reads (step lanes z) (phase_of lanes new.machine) (new.buffer.items ++ rest)) (sym on.subject) ∙ more.goes rest ∙ regrouped rest;
   }
 
   pub on-and-refused : (r : Refusal) → RefusedOn lanes cur (cur.buffer.items ++ ys) r → RefusedOn lanes first (xs ++ ys) r
@@ -105,14 +105,14 @@ module _ (lanes : Lanes) (first cur : Reading) (xs ys : List ℕ) (on : ReadOn l
 pub refused-more : (lanes : Lanes) (old : Reading) (xs ys : List ℕ) (r : Refusal) → RefusedOn lanes old xs r → RefusedOn lanes old (xs ++ ys) r
 refused-more lanes old xs ys r before = record {
   rule = before.rule;
-  stays = λ rest. ap (λ (z : List ℕ). reads (step lanes old.subject) (phase_of old.machine) z) (append_assoc xs ys rest) ∙ before.stays (ys ++ rest);
+  stays = λ rest. ap (λ (z : List ℕ). reads (step lanes old.subject) (phase_of lanes old.machine) z) (append_assoc xs ys rest) ∙ before.stays (ys ++ rest);
 }
 
 pub on-nothing : (lanes : Lanes) (old : Reading) → IsReading lanes old → ReadOn lanes old old (old.buffer.items ++ [])
 on-nothing lanes old is = record {
   is = is;
   subject = refl;
-  goes = λ rest. ap (λ (z : List ℕ). reads (step lanes old.subject) (phase_of old.machine) (z ++ rest)) (sym (append-nil old.buffer.items));
+  goes = λ rest. ap (λ (z : List ℕ). reads (step lanes old.subject) (phase_of lanes old.machine) (z ++ rest)) (sym (append-nil old.buffer.items));
 }
 
 -- ---- what a state tells
@@ -122,11 +122,11 @@ told-refuses h (Ok x) r e = absurd cc
 told-refuses h (Err q) r e = let same : q ≡ r = cc in ap (λ (y : Refusal). Err y) same
 
 -- What waits is refused by rule 1, or not at all.
-pub only-short : (lanes : Lanes) (x : Reading) (r : Refusal) → IsReading lanes x → comes lanes (Ok (held_of x)) [] ≡ Refuse r → r.rule ≡ 1
+pub only-short : (lanes : Lanes) (x : Reading) (r : Refusal) → IsReading lanes x → comes lanes (Ok (held_of lanes x)) [] ≡ Refuse r → r.rule ≡ 1
 only-short lanes x r is e =
-    let refuses = told-refuses x.subject.header (reads (step lanes x.subject) (phase_of x.machine) (x.buffer.items ++ [])) r e in
-    let here = sym (ap (λ (z : List ℕ). reads (step lanes x.subject) (phase_of x.machine) z) (append-nil x.buffer.items)) ∙ refuses in
-    waiting-refused (step lanes x.subject) (is-stream lanes x.subject) (phase_of x.machine) x.buffer.items r is.waits here
+    let refuses = told-refuses x.subject.header (reads (step lanes x.subject) (phase_of lanes x.machine) (x.buffer.items ++ [])) r e in
+    let here = sym (ap (λ (z : List ℕ). reads (step lanes x.subject) (phase_of lanes x.machine) z) (append-nil x.buffer.items)) ∙ refuses in
+    waiting-refused (step lanes x.subject) (is-stream lanes x.subject) (phase_of lanes x.machine) x.buffer.items r is.waits here
 
 pub nothing-held : (xs : List ℕ) → (length xs == 0) ≡ true → xs ≡ []
 nothing-held xs e = nil_from_length xs (eqb-true (length xs) 0 e)

@@ -30,17 +30,17 @@ IsWholeFront front = (HEADER_BYTES ≤ length front) × (length front ≡ front_
 
 -- ---- the code's
 
-abbrev pub held_of : Reading → Held
-held_of r = record { subject = r.subject; phase = phase_of r.machine; bytes = r.buffer.items }
+abbrev pub held_of : Lanes → Reading → Held
+held_of lanes r = record { subject = r.subject; phase = phase_of lanes r.machine; bytes = r.buffer.items }
 
 -- It waits for bytes, or the file may end.
 pub record IsReading (lanes : Lanes) (r : Reading) : Type 0 where
   pub fits : Fits r.subject r.machine
-  pub waits : patient (step lanes r.subject) (phase_of r.machine) r.buffer.items ≡ Ok None
+  pub waits : patient (step lanes r.subject) (phase_of lanes r.machine) r.buffer.items ≡ Ok None
 
-abbrev pub state_of : Result Reading Refusal → Result Held Refusal
-state_of (Ok r) = Ok (held_of r)
-state_of (Err r) = Err r
+abbrev pub state_of : Lanes → Result Reading Refusal → Result Held Refusal
+state_of lanes (Ok r) = Ok (held_of lanes r)
+state_of lanes (Err r) = Err r
 
 abbrev pub IsState : Lanes → Result Reading Refusal → Type 0
 IsState lanes (Ok r) = IsReading lanes r
@@ -50,11 +50,11 @@ IsState lanes (Err r) = ¬ (r.rule ≡ SHORT)
 pub record ReadOn (lanes : Lanes) (old new : Reading) (bytes : List ℕ) : Type 0 where
   pub is : IsReading lanes new
   pub subject : new.subject ≡ old.subject
-  pub goes : (rest : List ℕ) → reads (step lanes old.subject) (phase_of new.machine) (new.buffer.items ++ rest) ≡ reads (step lanes old.subject) (phase_of old.machine) (bytes ++ rest)
+  pub goes : (rest : List ℕ) → reads (step lanes old.subject) (phase_of lanes new.machine) (new.buffer.items ++ rest) ≡ reads (step lanes old.subject) (phase_of lanes old.machine) (bytes ++ rest)
 
 pub record RefusedOn (lanes : Lanes) (old : Reading) (bytes : List ℕ) (r : Refusal) : Type 0 where
   pub rule : ¬ (r.rule ≡ SHORT)
-  pub stays : (rest : List ℕ) → reads (step lanes old.subject) (phase_of old.machine) (bytes ++ rest) ≡ Err r
+  pub stays : (rest : List ℕ) → reads (step lanes old.subject) (phase_of lanes old.machine) (bytes ++ rest) ≡ Err r
 
 abbrev pub ReadsOn : Lanes → Reading → Reading → List ℕ → Result (Unit {0}) Refusal → Type 0
 ReadsOn lanes old new bytes (Ok u) = ReadOn lanes old new bytes

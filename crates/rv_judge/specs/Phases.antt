@@ -13,6 +13,8 @@ use Rattle.rv_rules.specs.Checks.{Check}
 use Rattle.rv_rules.specs.Reading.{above, head_of}
 use Rattle.rv_rowcheck.specs.RowChecking.{IsPlace}
 use Rattle.rv_spec.specs.Digest.{Lanes}
+use Rattle.rv_pairs.specs.declared.pairing.Pairing.{Pairing}
+use Rattle.rv_pairs.specs.Covers.{read_digest, written_digest}
 use Rattle.rv_reading.specs.Stream.{Found}
 use Rattle.rv_reading.specs.Machine as machine
 use Rattle.rv_reading.specs.Machine.Phase.{Shards as ShardsOf, Rows as RowsOf, Entries as EntriesOf}
@@ -34,16 +36,20 @@ extent_of Table = TableAlone
 abbrev pub sums_of : Sums → machine.Sums
 sums_of s = record { reads = s.reads.lanes; writes = s.writes.lanes }
 
-abbrev pub inside_of : RowsLeft → Sums → machine.Inside
-inside_of rows shard = record { head = rows.head; bytes = rows.bytes; sums = sums_of shard }
+-- what the digests of a shard will be, once all that waits is added
+abbrev pub sums_in : Lanes → Pairing → machine.Sums
+sums_in lanes p = record { reads = read_digest lanes p; writes = written_digest lanes p }
 
-abbrev pub phase_at : Phase → Place → Sums → Sums → machine.Phase
-phase_at (Shards left next) place shard all = ShardsOf left next place (sums_of all)
-phase_at (Rows rows) place shard all = RowsOf rows.left rows.next rows.behind rows.shard (inside_of rows shard) place (sums_of all)
-phase_at (Entries left next before) place shard all = EntriesOf left next before place (sums_of all)
+abbrev pub inside_of : Lanes → RowsLeft → Pairing → machine.Inside
+inside_of lanes rows shard = record { head = rows.head; bytes = rows.bytes; sums = sums_in lanes shard }
 
-abbrev pub phase_of : Machine → machine.Phase
-phase_of m = phase_at m.phase m.place m.shard m.all
+abbrev pub phase_at : Lanes → Phase → Place → Pairing → Sums → machine.Phase
+phase_at lanes (Shards left next) place shard all = ShardsOf left next place (sums_of all)
+phase_at lanes (Rows rows) place shard all = RowsOf rows.left rows.next rows.behind rows.shard (inside_of lanes rows shard) place (sums_of all)
+phase_at lanes (Entries left next before) place shard all = EntriesOf left next before place (sums_of all)
+
+abbrev pub phase_of : Lanes → Machine → machine.Phase
+phase_of lanes m = phase_at lanes m.phase m.place m.shard m.all
 
 -- how many entries of the table were read
 abbrev pub entries_in : Phase → ℕ
@@ -79,7 +85,7 @@ Fits s m = FitsAt s m.place m.phase
 
 -- A step of the machine from a phase goes on behind so many bytes, to a phase that fits.
 pub record Went (lanes : Lanes) (s : Subject) (before : machine.Phase) (new : Machine) (bytes : List ℕ) (n : ℕ) : Type 0 where
-  pub found : step lanes s before bytes ≡ Ok (Some (phase_of new, drop n bytes))
+  pub found : step lanes s before bytes ≡ Ok (Some (phase_of lanes new, drop n bytes))
   pub taken : n ≤ length bytes
   pub fits : Fits s new
 
@@ -90,9 +96,9 @@ Goes lanes s before old new bytes (Err r) = (step lanes s before bytes ≡ Err r
 
 -- Or the reading may end.
 abbrev pub Steps : Lanes → Subject → Machine → Machine → List ℕ → Result (Option ℕ) Refusal → Type 0
-Steps lanes s old new bytes (Ok (Some n)) = Went lanes s (phase_of old) new bytes n
-Steps lanes s old new bytes (Ok None) = (step lanes s (phase_of old) bytes ≡ Ok None) × (new ≡ old)
-Steps lanes s old new bytes (Err r) = (step lanes s (phase_of old) bytes ≡ Err r) × (new ≡ old)
+Steps lanes s old new bytes (Ok (Some n)) = Went lanes s (phase_of lanes old) new bytes n
+Steps lanes s old new bytes (Ok None) = (step lanes s (phase_of lanes old) bytes ≡ Ok None) × (new ≡ old)
+Steps lanes s old new bytes (Err r) = (step lanes s (phase_of lanes old) bytes ≡ Err r) × (new ≡ old)
 
 -- The reading may end, or it is refused.
 abbrev pub Ends : Lanes → Subject → machine.Phase → List ℕ → Result (Unit {0}) Refusal → Type 0

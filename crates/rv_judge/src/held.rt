@@ -65,7 +65,7 @@ impl<'c, 'p> Reading<'c, 'p> {
     /// The verdict where no more bytes follow.
     pub fn finish<L: Lanes>(&self, lanes: &L) -> Verdict
         requires { IsReading L.lanes self.now }
-        ensures { result ≡ comes L.lanes (Ok (held_of self.now)) [] }
+        ensures { result ≡ comes L.lanes (Ok (held_of L.lanes self.now)) [] }
     {
         let mut machine = self.machine;
         let stop = machine.read(&self.subject, lanes, Extent::File, self.buffer.as_slice());

@@ -3,6 +3,7 @@
 ghost use Rattle.std.specs.Prelude.{◌≡◌, ◌==◌};
 ghost use Rattle.rv_reading.specs.Machine.{is_behind as is_behind_of, no_sums};
 ghost use Rattle.rv_reading.specs.Machine.Phase.{Shards as ShardsOf};
+ghost use Rattle.rv_spec.specs.Digest.{Lanes as LanesOf};
 ghost use Rattle.rv_judge.specs.declared.phases.Phase.TheVariants.{Shards as ShardsPhase};
 ghost use Rattle.rv_judge.specs.Phases.{Fits, Steps, entries_in, extent_of, phase_of};
 
@@ -10,6 +11,7 @@ use crate::subject::Subject;
 use crate::sums::Sums;
 use rv_base::{Place, Refusal, ShardHead};
 use rv_digest::Lanes;
+use rv_pairs::Pairing;
 
 /// How far to read: the whole file, one shard or the table.
 #[derive(Clone, Copy)]
@@ -49,25 +51,25 @@ pub(crate) enum Phase {
     },
 }
 
-/// Where the reading stands: the phase, the place in the run, and the digests of the shard so far and of all before it.
+/// Where the reading stands: the phase, the place in the run, the tuples of the shard so far, and the digests of all before it.
 #[derive(Clone, Copy)]
 pub(crate) struct Machine {
     pub phase: Phase,
     pub place: Place,
-    pub shard: Sums,
+    pub shard: Pairing,
     pub all: Sums,
 }
 
 impl Machine {
     /// Before some shards.
     pub fn at_shards(left: u32, next: u32, place: Place) -> Machine
-        ensures phase { phase_of result ≡ ShardsOf left next place no_sums }
+        ensures phase { (lanes : LanesOf) → phase_of lanes result ≡ ShardsOf left next place no_sums }
         ensures at { (result.place ≡ place) × (result.phase ≡ ShardsPhase left next) }
     {
         Machine {
             phase: Phase::Shards { left, next },
             place,
-            shard: Sums::none(),
+            shard: Pairing::new(),
             all: Sums::none(),
         }
     }
@@ -93,7 +95,7 @@ impl Machine {
             }
             Phase::Rows(rows) => {
                 if rows.left == 0 {
-                    Ok(Some(self.end_shard(subject, rows, bytes)?))
+                    Ok(Some(self.end_shard(subject, lanes, rows, bytes)?))
                 } else {
                     Ok(Some(self.row(subject, lanes, rows, bytes)?))
                 }
@@ -111,7 +113,7 @@ impl Machine {
 
     /// Whether the phase is behind what is to be read.
     pub fn is_behind(&self, extent: Extent) -> bool
-        ensures { result ≡ is_behind_of (extent_of extent) (phase_of self.now) }
+        ensures { (lanes : LanesOf) → result ≡ is_behind_of (extent_of extent) (phase_of lanes self.now) }
     {
         match (extent, self.phase) {
             (Extent::Shard, Phase::Shards { left, .. }) => left == 0,

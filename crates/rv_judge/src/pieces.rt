@@ -25,7 +25,7 @@ use std::marker::Model;
 fn opened<'a>(program: &'a Program<'a>, front: &'a [u8]) -> Result<Reading<'a, 'a>, Refusal>
     requires { IsWholeFront front.now }
     ensures is { (lanes : LanesOf) → IsState lanes result }
-    ensures comes { (lanes : LanesOf) (rest : List ℕ) → comes lanes (state_of result) rest ≡ verdict_is lanes program.now.elf program.now.input (front.now ++ rest) }
+    ensures comes { (lanes : LanesOf) (rest : List ℕ) → comes lanes (state_of lanes result) rest ≡ verdict_is lanes program.now.elf program.now.input (front.now ++ rest) }
 {
     match check_front(program, front) {
         Ok(header) => {
@@ -55,7 +55,7 @@ impl<'a, L: Lanes> Model for Judge<'a, L> {
 
     ghost Value = { Result Held Refusal };
 
-    ghost view = { λ s. state_of s.state };
+    ghost view = { λ s. state_of L.lanes s.state };
 
     ghost invariant = { λ s. IsState L.lanes s.state };
 }

@@ -29,9 +29,9 @@ impl Machine {
     ) -> Stop<'b>
         requires { Fits subject.now self.old }
         ensures fits { Fits subject.now self.new }
-        ensures stops { step_to L.lanes subject.now (extent_of extent) (phase_of self.new) result.left.now ≡ stopped result.refusal }
-        ensures goes { (rest : List ℕ) → reads (step_to L.lanes subject.now (extent_of extent)) (phase_of self.new) (result.left.now ++ rest)
-            ≡ reads (step_to L.lanes subject.now (extent_of extent)) (phase_of self.old) (bytes.now ++ rest) }
+        ensures stops { step_to L.lanes subject.now (extent_of extent) (phase_of L.lanes self.new) result.left.now ≡ stopped result.refusal }
+        ensures goes { (rest : List ℕ) → reads (step_to L.lanes subject.now (extent_of extent)) (phase_of L.lanes self.new) (result.left.now ++ rest)
+            ≡ reads (step_to L.lanes subject.now (extent_of extent)) (phase_of L.lanes self.old) (bytes.now ++ rest) }
         ensures within { length result.left.now ≤ length bytes.now }
         ensures behind { result.left.now ≡ drop (length bytes.now - length result.left.now) bytes.now }
     {

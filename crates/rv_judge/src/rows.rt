@@ -63,7 +63,7 @@ impl Machine {
     ) -> Result<usize, Refusal>
         requires some { 0 < rows.left }
         requires fits { FitsAt subject.now self.old.place (RowsPhase rows) }
-        ensures { Goes L.lanes subject.now (phase_at (RowsPhase rows) self.old.place self.old.shard self.old.all) self.old self.new bytes.now result }
+        ensures { Goes L.lanes subject.now (phase_at L.lanes (RowsPhase rows) self.old.place self.old.shard self.old.all) self.old self.new bytes.now result }
     {
         match read_row(bytes) {
             RowRead::Row(row, length) => {
@@ -72,8 +72,7 @@ impl Machine {
                     Ok(after) => {
                         self.phase = Phase::Rows(rows.behind_row(length));
                         self.place = after;
-                        self.shard
-                            .add_accesses(lanes, step, row.accesses.as_slice());
+                        self.shard.accesses(lanes, step, row.accesses.as_slice());
                         Ok(length)
                     }
                     Err(rule) => Err(Refusal::at(rows.shard, rows.next, rule)),

@@ -13,6 +13,7 @@ use crate::sums::Sums;
 use rv_base::layout::{DIGESTS_BYTES, HEAD_BYTES};
 use rv_base::rules::{ROW_BYTES, SHARD_DIGEST, SHARD_HEAD, SHORT};
 use rv_base::{Place, Refusal, ShardHead};
+use rv_digest::Lanes;
 use rv_file::read_head;
 
 /// The head at the front of the bytes.
@@ -47,7 +48,7 @@ impl Machine {
     ) -> Result<usize, Refusal>
         requires some { 0 < left }
         requires fits { FitsAt subject.now self.old.place (ShardsPhase left shard) }
-        ensures { (lanes : LanesOf) → Goes lanes subject.now (phase_at (ShardsPhase left shard) self.old.place self.old.shard self.old.all) self.old self.new bytes.now result }
+        ensures { (lanes : LanesOf) → Goes lanes subject.now (phase_at lanes (ShardsPhase left shard) self.old.place self.old.shard self.old.all) self.old self.new bytes.now result }
     {
         let Some(head) = head_at(bytes) else {
             return Err(Refusal::at(shard, 0, SHORT));
@@ -64,20 +65,21 @@ impl Machine {
             head,
             bytes: 0,
         });
-        self.shard = Sums::none();
+        self.shard.clear();
         Ok(HEAD_BYTES)
     }
 
     /// The digests of a shard, behind its rows.
-    pub(crate) fn end_shard(
+    pub(crate) fn end_shard<L: Lanes>(
         &mut self,
         subject: &Subject<'_, '_>,
+        lanes: &L,
         rows: RowsLeft,
         bytes: &[u8],
     ) -> Result<usize, Refusal>
         requires none { rows.left ≡ 0 }
         requires fits { FitsAt subject.now self.old.place (RowsPhase rows) }
-        ensures { (lanes : LanesOf) → Goes lanes subject.now (phase_at (RowsPhase rows) self.old.place self.old.shard self.old.all) self.old self.new bytes.now result }
+        ensures { Goes L.lanes subject.now (phase_at L.lanes (RowsPhase rows) self.old.place self.old.shard self.old.all) self.old self.new bytes.now result }
     {
         if rows.bytes != rows.head.bytes {
             return Err(Refusal::at(rows.shard, rows.next, ROW_BYTES));
@@ -85,14 +87,14 @@ impl Machine {
         if bytes.len() < DIGESTS_BYTES {
             return Err(Refusal::at(rows.shard, rows.next, SHORT));
         }
-        if !self.shard.are_stated(bytes) {
+        let shard = Sums::of(&self.shard, lanes);
+        if !shard.are_stated(bytes) {
             return Err(Refusal::at(rows.shard, rows.next, SHARD_DIGEST));
         }
         self.phase = Phase::Shards {
             left: rows.behind,
             next: rows.shard + 1,
         };
-        let shard = self.shard;
         self.all.join(&shard);
         Ok(DIGESTS_BYTES)
     }

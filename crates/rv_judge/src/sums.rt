@@ -1,25 +1,16 @@
 //! The digests of the tuples that are read and of those that are written.
 
-ghost use Rattle.std.specs.Prelude.{◌≡◌, ℕ, ◌≤◌, ◌<◌, ◌^◌, ◌&&◌, true, map, take, drop, length, bytes_eq};
-ghost use Rattle.rv_base.specs.declared.cells.TheConstants.{SLOTS as slots};
+ghost use Rattle.std.specs.Prelude.{◌≡◌, ◌≤◌, ◌&&◌, true, drop, length, bytes_eq};
 ghost use Rattle.rv_base.specs.declared.layout.TheConstants.{DIGEST_BYTES as digest_size, DIGESTS_BYTES as digests_size};
-ghost use Rattle.rv_spec.specs.Tuples.{event, tuple_read, tuple_written};
 ghost use Rattle.rv_rules.specs.Reading.{digest_of};
 ghost use Rattle.rv_rules.specs.Sums.{tiny_lanes};
-ghost use Rattle.rv_reading.specs.Machine.{no_sums, with_events, with_sums, with_tuples};
-ghost use Rattle.rv_judge.specs.Phases.{sums_of};
+ghost use Rattle.rv_reading.specs.Machine.{no_sums, with_sums, with_tuples};
+ghost use Rattle.rv_judge.specs.Phases.{sums_in, sums_of};
 
-use rv_base::cells::SLOTS;
+use rv_base::Tuple;
 use rv_base::layout::DIGEST_BYTES;
-use rv_base::{Access, Tuple, time_of};
 use rv_digest::{Lanes, SetDigest};
-
-/// A tuple to begin a list with.
-const NO_TUPLE: Tuple = Tuple {
-    cell: 0,
-    value: 0,
-    time: 0,
-};
+use rv_pairs::Pairing;
 
 /// The digests of what was read and of what was written.
 #[derive(Clone, Copy)]
@@ -39,23 +30,20 @@ impl Sums {
         }
     }
 
+    /// Of the accesses of a shard.
+    pub fn of<L: Lanes>(shard: &Pairing, lanes: &L) -> Sums
+        ensures { sums_of result ≡ sums_in L.lanes shard.now }
+    {
+        let (reads, writes) = shard.digests(lanes);
+        Sums { reads, writes }
+    }
+
     /// Adds tuples that are read and tuples that are written.
     pub fn add<L: Lanes>(&mut self, lanes: &L, read: &[Tuple], written: &[Tuple])
         ensures { sums_of self.new ≡ with_tuples true L.lanes (sums_of self.old) read.now written.now }
     {
         self.reads.add_tuples(lanes, read);
         self.writes.add_tuples(lanes, written);
-    }
-
-    /// Adds the tuples of a step's accesses.
-    pub fn add_accesses<L: Lanes>(&mut self, lanes: &L, step: u64, accesses: &[Access])
-        requires step { step < 2 ^ 32 }
-        requires few { length accesses.now ≤ slots }
-        ensures { sums_of self.new ≡ with_events true L.lanes (sums_of self.old) (map (event step) accesses.now) }
-    {
-        let read = tuples_read(accesses);
-        let written = tuples_written(step, accesses);
-        self.add(lanes, &read[..accesses.len()], &written[..accesses.len()]);
     }
 
     /// Adds all that others have.
@@ -91,37 +79,4 @@ fn states(bytes: &[u8], digest: &SetDigest) -> bool
         Some(stated) => SetDigest::from_bytes(stated).lanes == digest.lanes,
         None => false,
     }
-}
-
-/// The tuples that accesses read, in front.
-fn tuples_read(accesses: &[Access]) -> [Tuple; SLOTS]
-    requires { length accesses.now ≤ slots }
-    ensures { (step : ℕ) → take (length accesses.now) result ≡ map tuple_read (map (event step) accesses.now) }
-{
-    let mut tuples = [NO_TUPLE; SLOTS];
-    for (j, access) in accesses.iter().enumerate() {
-        tuples[j] = Tuple {
-            cell: access.cell,
-            value: access.old,
-            time: access.prev,
-        };
-    }
-    tuples
-}
-
-/// The tuples that a step's accesses write, in front.
-fn tuples_written(step: u64, accesses: &[Access]) -> [Tuple; SLOTS]
-    requires step { step < 2 ^ 32 }
-    requires few { length accesses.now ≤ slots }
-    ensures { take (length accesses.now) result ≡ map tuple_written (map (event step) accesses.now) }
-{
-    let mut tuples = [NO_TUPLE; SLOTS];
-    for (j, access) in accesses.iter().enumerate() {
-        tuples[j] = Tuple {
-            cell: access.cell,
-            value: access.new,
-            time: time_of(step, access.slot),
-        };
-    }
-    tuples
 }

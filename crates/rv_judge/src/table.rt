@@ -90,7 +90,7 @@ impl Machine {
         bytes: &[u8],
     ) -> Result<usize, Refusal>
         requires { FitsAt subject.now self.old.place (ShardsPhase 0 next) }
-        ensures { (lanes : LanesOf) → Goes lanes subject.now (phase_at (ShardsPhase 0 next) self.old.place self.old.shard self.old.all) self.old self.new bytes.now result }
+        ensures { (lanes : LanesOf) → Goes lanes subject.now (phase_at lanes (ShardsPhase 0 next) self.old.place self.old.shard self.old.all) self.old self.new bytes.now result }
     {
         if bytes.len() < COUNT_BYTES {
             return Err(Refusal::at(subject.header().shards, 0, SHORT));
@@ -115,7 +115,7 @@ impl Machine {
     ) -> Result<usize, Refusal>
         requires some { 0 < left }
         requires fits { FitsAt subject.now self.old.place (EntriesPhase left next before) }
-        ensures { Goes L.lanes subject.now (phase_at (EntriesPhase left next before) self.old.place self.old.shard self.old.all) self.old self.new bytes.now result }
+        ensures { Goes L.lanes subject.now (phase_at L.lanes (EntriesPhase left next before) self.old.place self.old.shard self.old.all) self.old self.new bytes.now result }
     {
         let header = subject.header();
         if bytes.len() < ENTRY_BYTES {
@@ -147,7 +147,7 @@ impl Machine {
         before: Option<u32>,
         bytes: &[u8],
     ) -> Result<(), Refusal>
-        ensures { (lanes : LanesOf) → Ends lanes subject.now (phase_at (EntriesPhase 0 next before) self.now.place self.now.shard self.now.all) bytes.now result }
+        ensures { (lanes : LanesOf) → Ends lanes subject.now (phase_at lanes (EntriesPhase 0 next before) self.now.place self.now.shard self.now.all) bytes.now result }
     {
         let header = subject.header();
         match broken_end(header, self.place, &self.all, !bytes.is_empty()) {

@@ -19,7 +19,7 @@ use rv_program::{Program, check_front};
 
 /// The machine in front of the first shard.
 pub(crate) fn first(subject: &Subject<'_, '_>) -> Machine
-    ensures phase { phase_of result ≡ first_phase true tiny_lanes subject.now.elf subject.now.input subject.now.header }
+    ensures phase { (lanes : LanesOf) → phase_of lanes result ≡ first_phase true tiny_lanes subject.now.elf subject.now.input subject.now.header }
     ensures fits { Fits subject.now result }
 {
     Machine::at_shards(subject.header().shards, 0, subject.first_place())

@@ -1,2 +1,2 @@
-pub mod MoreTuples
-pub mod SameSums
+pub mod LaneSums
+pub mod Waiting

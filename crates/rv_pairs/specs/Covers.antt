@@ -1,28 +1,32 @@
 -- Tuples read and written, some of them paired.
-use Rattle.std.specs.Prelude.{◌≡◌, ℕ, ◌+◌, List, ◌++◌, Option, sum_by}
-use Rattle.std.specs.List.{flat_map}
-use Rattle.std.specs.Option.{option_to_list}
+use Rattle.std.specs.Prelude.{◌≡◌, ℕ, List, take}
 use Rattle.rv_base.specs.declared.record.Tuple.{Tuple}
 use Rattle.rv_spec.specs.Digest.{Lanes, digest}
+use Rattle.rv_rules.specs.Sums.{add_lanes}
 use Rattle.rv_pairs.specs.declared.adder.Adder.{Adder}
 use Rattle.rv_pairs.specs.declared.pairing.Pairing.{Pairing}
 
--- The list is that of the tuples hashed and of the one that waits.
-pub record IsSumOf (lanes : Lanes) (adder : Adder) (ts : List Tuple) : Type 0 where
-  pub hashed : List Tuple
-  pub sum_is : adder.sum.lanes ≡ digest lanes hashed
-  pub list_is : ts ≡ hashed ++ option_to_list adder.last
+-- a sum, with tuples more
+unfoldable pub with_tuples : Lanes → List ℕ → List Tuple → List ℕ
+with_tuples lanes sum ts = add_lanes sum (digest lanes ts)
 
--- What was read is in `reads` or in `both`, and what was written is in `writes`, in `both` or waits in the table, each tuple as often: every sum over the tuples agrees.
-pub record PartsCover (lanes : Lanes) (reads writes both : Adder) (table : List (Option Tuple)) (rs ws : List Tuple) : Type 0 where
-  pub only_read : List Tuple
-  pub only_written : List Tuple
-  pub shared : List Tuple
-  pub reads_sum : IsSumOf lanes reads only_read
-  pub writes_sum : IsSumOf lanes writes only_written
-  pub both_sum : IsSumOf lanes both shared
-  pub all_read : (f : Tuple → ℕ) → sum_by f rs ≡ sum_by f only_read + sum_by f shared
-  pub all_written : (f : Tuple → ℕ) → sum_by f ws ≡ sum_by f only_written + sum_by f shared + sum_by f (flat_map option_to_list table)
+-- a sum of two lists
+unfoldable pub joined : List ℕ → List ℕ → List ℕ
+joined sum other = add_lanes sum other
 
-abbrev pub Covers : Lanes → Pairing → List Tuple → List Tuple → Type 0
-Covers lanes pairing rs ws = PartsCover lanes pairing.reads pairing.writes pairing.both pairing.table.items rs ws
+-- what the sum will be, once the tuples in the buffer are added
+unfoldable pub total : Lanes → Adder → List ℕ
+total lanes adder = with_tuples lanes adder.sum.lanes (take adder.count adder.buffer)
+
+-- The digest of the tuples read: of those only read and of those read as they were written.
+unfoldable pub read_digest : Lanes → Pairing → List ℕ
+read_digest lanes p = joined (total lanes p.reads) (total lanes p.both)
+
+-- The digest of the tuples written: of those only written, of those read as they were written, and of those that wait.
+unfoldable pub written_digest : Lanes → Pairing → List ℕ
+written_digest lanes p = with_tuples lanes (joined (total lanes p.writes) (total lanes p.both)) (take p.count p.waiting)
+
+-- These tuples were read, and these were written, as far as the digests tell.
+pub record Covers (lanes : Lanes) (p : Pairing) (rs ws : List Tuple) : Type 0 where
+  pub reads : read_digest lanes p ≡ digest lanes rs
+  pub writes : written_digest lanes p ≡ digest lanes ws

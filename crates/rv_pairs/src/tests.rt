@@ -3,7 +3,6 @@
 use crate::Pairing;
 use rv_base::Tuple;
 use rv_digest::{SetDigest, ShaLanes};
-use std::alloc::AllocError;
 
 const X10: u32 = 0x4000_000a;
 
@@ -21,8 +20,8 @@ fn ends(sums: (SetDigest, SetDigest)) -> [u64; 4] {
 }
 
 #[test]
-fn paired_replaced_and_wrong_reads(rt: HostRuntime) -> Result<(), AllocError> {
-    let mut pairing = Pairing::new(rt.alloc())?;
+fn paired_replaced_and_wrong_reads(rt: HostRuntime) {
+    let mut pairing = Pairing::new();
     for (read, written) in [
         (tuple(X10, 0, 0), tuple(X10, 42, 7)),
         (tuple(3, 5, 0), tuple(3, 6, 17)),
@@ -42,10 +41,11 @@ fn paired_replaced_and_wrong_reads(rt: HostRuntime) -> Result<(), AllocError> {
         0xacc6_a539_2dbc_ba7a,
         0x30bd_f194_32c4_fca3,
     ];
-    assert_eq!(rt; ends(pairing.take(&ShaLanes)), first);
-    assert_eq!(rt; ends(pairing.take(&ShaLanes)), [0; 4]);
+    assert_eq!(rt; ends(pairing.digests(&ShaLanes)), first);
+    pairing.clear();
+    assert_eq!(rt; ends(pairing.digests(&ShaLanes)), [0; 4]);
 
-    // What waited before `take` is forgotten.
+    // What waited before `clear` is forgotten.
     pairing.access(&ShaLanes, tuple(X10, 41, 23), tuple(X10, 40, 39));
     let next = [
         0x7b87_768b_4392_f21f,
@@ -53,6 +53,5 @@ fn paired_replaced_and_wrong_reads(rt: HostRuntime) -> Result<(), AllocError> {
         0x4be1_b58b_7e57_4b7a,
         0x93a7_1e5a_5162_26c2,
     ];
-    assert_eq!(rt; ends(pairing.take(&ShaLanes)), next);
-    Ok(())
+    assert_eq!(rt; ends(pairing.digests(&ShaLanes)), next);
 }

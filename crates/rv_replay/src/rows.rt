@@ -1,14 +1,11 @@
 //! The rows of a shard, made one after another.
 
-ghost use Rattle.std.specs.Prelude.{◌≡◌, ◌+◌, ◌^◌, ◌<◌, ◌≤◌, ◌++◌, List, length, map, OnOk};
+ghost use Rattle.std.specs.Prelude.{◌+◌, ◌^◌, ◌≤◌, OnOk};
 ghost use Rattle.rv_spec.specs.Words.{AreBytes};
 ghost use Rattle.rv_rules.specs.Agreement.{IsProgram};
-ghost use Rattle.rv_base.specs.declared.record.Tuple.{Tuple as TupleOf};
-ghost use Rattle.rv_spec.specs.Tuples.{event, tuple_read, tuple_written};
-ghost use Rattle.rv_pairs.specs.Covers.{Covers};
 ghost use Rattle.rv_replay.specs.Making.{HasMade};
 
-use rv_base::{Access, NoMemory, Tuple, time_of};
+use rv_base::NoMemory;
 use rv_digest::Lanes;
 use rv_isa::Hart;
 use rv_pairs::Pairing;
@@ -37,35 +34,10 @@ impl Making<'_> {
             let step = first + u64::from(done);
             let taken = self.hart.step(step)?;
             write_row(&taken.row, &mut self.bytes)?;
-            pair_accesses(
-                &mut self.pairing,
-                lanes,
-                step,
-                taken.row.accesses.as_slice(),
-            );
+            self.pairing
+                .accesses(lanes, step, taken.row.accesses.as_slice());
             self.put += u64::from(taken.put);
         }
         Ok(())
-    }
-}
-
-/// Takes the tuples that the accesses of a step read and write.
-fn pair_accesses<L: Lanes>(pairing: &mut Pairing, lanes: &L, step: u64, accesses: &[Access])
-    requires { step < 2 ^ 32 }
-    ensures { (rs ws : List TupleOf) → Covers L.lanes pairing.old rs ws
-        → Covers L.lanes pairing.new (rs ++ map tuple_read (map (event step) accesses.now)) (ws ++ map tuple_written (map (event step) accesses.now)) }
-{
-    for access in accesses {
-        let read = Tuple {
-            cell: access.cell,
-            value: access.old,
-            time: access.prev,
-        };
-        let written = Tuple {
-            cell: access.cell,
-            value: access.new,
-            time: time_of(step, access.slot),
-        };
-        pairing.access(lanes, read, written);
     }
 }

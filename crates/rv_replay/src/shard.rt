@@ -50,23 +50,18 @@ fn begin<'a>(
 {
     let image = image.copy();
     let hart = Hart::resume(alloc, &image, input, start.place, start.cells.list())?;
-    let pairing = Pairing::new(alloc)?;
     let mut bytes = Vec::new(alloc);
     bytes.extend_from_slice(&[0; HEAD_BYTES])?;
     Ok(Making {
         hart,
-        pairing,
+        pairing: Pairing::new(),
         bytes,
         put: 0,
     })
 }
 
 /// Writes the head before the rows and the digests behind them.
-fn finish<L: Lanes>(
-    mut making: Making<'_>,
-    start: &ShardStart,
-    lanes: &L,
-) -> Result<Piece, NoMemory>
+fn finish<L: Lanes>(making: Making<'_>, start: &ShardStart, lanes: &L) -> Result<Piece, NoMemory>
     requires start { IsStartOf making.hart.cells.image making.hart.input start.now }
     requires made { HasMade L.lanes making.hart.cells.image making.hart.input start.now.step start.now.rows start.now.rows making }
     ensures { IfOk result (λ p. p ≡ piece_of L.lanes making.entry.hart.cells.image making.entry.hart.input start.now.index start.now.step start.now.rows) }
@@ -84,7 +79,7 @@ fn finish<L: Lanes>(
         input: making.hart.position(),
         output: start.place.output + making.put,
     };
-    let (reads, writes) = making.pairing.take(lanes);
+    let (reads, writes) = making.pairing.digests(lanes);
     let bytes = spell(making.bytes, &head, &reads, &writes)?;
     Ok(Piece {
         index: start.index,

@@ -18,9 +18,9 @@ returns-in-Some-refusal g c =
     let head = c.in-Some.ensures.1 in
     let stands : can_stand (stated bytes) s.input s.output ≡ true =
     ap (λ (h : ShardHead). can_stand (stated_in h) s.input s.output) (sym head) ∙ (λ t. can_stand (stated_in c.in-Some.head) (sym c.input.ensures t) ((c.new-subject.ensures t).output)) ∙ sym c.can_stand.ensures ∙ c.if-not-can_stand.false in
-    let begun = c.at_shards-machine.ensures.phase ∙ ap (λ (h : ShardHead). Shards 1 i (stated_in h) no_sums) head in
+    let begun = c.at_shards-machine.ensures.phase lanes ∙ ap (λ (h : ShardHead). Shards 1 i (stated_in h) no_sums) head in
     let refused =
-    shard-refused lanes s i bytes c.read-stop.new.self (stated bytes) (phase_of c.at_shards-machine.result) c.read-stop.result.left.now c.read-stop.result.refusal c.read-stop.ensures.stops c.read-stop.ensures.goes begun
+    shard-refused lanes s i bytes c.read-stop.new.self (stated bytes) (phase_of lanes c.at_shards-machine.result) c.read-stop.result.left.now c.read-stop.result.refusal c.read-stop.ensures.stops c.read-stop.ensures.goes begun
     c.in-Some-refusal.refusal c.in-Some-refusal.is in
     subst (λ (z : Subject). SeesShard lanes z i bytes (Err c.in-Some-refusal.refusal)) c.new-subject.ensures (alone lanes s i bytes c.in-Some.ensures.0 stands ∙ refused)
 
@@ -35,8 +35,8 @@ returns g c =
     let head = c.in-Some.ensures.1 in
     let stands : can_stand (stated bytes) s.input s.output ≡ true =
     ap (λ (h : ShardHead). can_stand (stated_in h) s.input s.output) (sym head) ∙ (λ t. can_stand (stated_in c.in-Some.head) (sym c.input.ensures t) ((c.new-subject.ensures t).output)) ∙ sym c.can_stand.ensures ∙ c.if-not-can_stand.false in
-    let begun = c.at_shards-machine.ensures.phase ∙ ap (λ (h : ShardHead). Shards 1 i (stated_in h) no_sums) head in
-    let read = shard-read lanes s i bytes m (stated bytes) (phase_of c.at_shards-machine.result) left c.read-stop.result.refusal c.read-stop.ensures.stops c.read-stop.ensures.goes begun c.in_default-refusal.is in
+    let begun = c.at_shards-machine.ensures.phase lanes ∙ ap (λ (h : ShardHead). Shards 1 i (stated_in h) no_sums) head in
+    let read = shard-read lanes s i bytes m (stated bytes) (phase_of lanes c.at_shards-machine.result) left c.read-stop.result.refusal c.read-stop.ensures.stops c.read-stop.ensures.goes begun c.in_default-refusal.is in
     let x = read.0 in
     subst (λ (z : Subject). SeesShard lanes z i bytes (Ok (record { head = c.in-Some.head; after = m.place; reads = m.all.reads; writes = m.all.writes; used = length bytes - length left }))) c.new-subject.ensures (
       x,

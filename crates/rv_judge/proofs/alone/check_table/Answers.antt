@@ -12,8 +12,8 @@ returns-in-Some g c =
     let s = c.new-subject.result in
     let bytes = c.args.bytes.now in
     let refused =
-    table-refused lanes s bytes c.read-stop.new.self 0 c.first_place.result (phase_of c.at_shards-machine.result) c.read-stop.result.left.now c.read-stop.result.refusal c.read-stop.ensures.stops c.read-stop.ensures.goes
-    c.at_shards-machine.ensures.phase c.in-Some.refusal c.in-Some.is in
+    table-refused lanes s bytes c.read-stop.new.self 0 c.first_place.result (phase_of lanes c.at_shards-machine.result) c.read-stop.result.left.now c.read-stop.result.refusal c.read-stop.ensures.stops c.read-stop.ensures.goes
+    (c.at_shards-machine.ensures.phase lanes) c.in-Some.refusal c.in-Some.is in
     subst (λ (z : Subject). SeesTable lanes z.elf z.header bytes (Err c.in-Some.refusal)) c.new-subject.ensures refused
 
 pub returns : goal.returns
@@ -24,7 +24,7 @@ returns g c =
     let m = c.read-stop.new.self in
     let left = c.read-stop.result.left.now in
     let read =
-    table-read lanes s bytes m 0 c.first_place.result (phase_of c.at_shards-machine.result) left c.read-stop.result.refusal c.read-stop.ensures.stops c.read-stop.ensures.goes c.at_shards-machine.ensures.phase c.in_default.is in
+    table-read lanes s bytes m 0 c.first_place.result (phase_of lanes c.at_shards-machine.result) left c.read-stop.result.refusal c.read-stop.ensures.stops c.read-stop.ensures.goes (c.at_shards-machine.ensures.phase lanes) c.in_default.is in
     subst (λ (z : Subject). SeesTable lanes z.elf z.header bytes (Ok (record { entries = c.entries.result; reads = m.all.reads; writes = m.all.writes; used = length bytes - length left }))) c.new-subject.ensures (
       read.0,
       read.1.is,

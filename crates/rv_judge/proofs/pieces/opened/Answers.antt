@@ -18,14 +18,14 @@ new-subject-requires c =
     subst (λ (h : Header). IsWithin h) read.1 (header-within tiny_lanes p.elf p.input front read.0)
 
 pub returns-in-Ok-clause-is : goal.returns-in-Ok-clause-is
-returns-in-Ok-clause-is c = λ lanes. record { fits = c.first.ensures.fits; waits = opened-waits lanes c.new-subject.result (phase_of c.first.result) c.new.result.items c.first.ensures.phase c.new.ensures }
+returns-in-Ok-clause-is c = λ lanes. record { fits = c.first.ensures.fits; waits = opened-waits lanes c.new-subject.result (phase_of lanes c.first.result) c.new.result.items (c.first.ensures.phase lanes) c.new.ensures }
 
 pub returns-in-Ok-clause-comes : goal.returns-in-Ok-clause-comes
 returns-in-Ok-clause-comes c = λ lanes rest.
     let p = c.args.program.now in
     let front = c.args.front.now in
-    opened-comes lanes p.elf p.input front c.in-Ok.header (take (length front - 173) (drop 173 front)) c.new-subject.result (phase_of c.first.result) c.new.result.items c.requires (sym (c.in-Ok.ensures.exact lanes))
-    (behind 173 front) c.new-subject.ensures c.first.ensures.phase c.new.ensures rest
+    opened-comes lanes p.elf p.input front c.in-Ok.header (take (length front - 173) (drop 173 front)) c.new-subject.result (phase_of lanes c.first.result) c.new.result.items c.requires (sym (c.in-Ok.ensures.exact lanes))
+    (behind 173 front) c.new-subject.ensures (c.first.ensures.phase lanes) c.new.ensures rest
 
 pub returns-in-Err-clause-is : goal.returns-in-Err-clause-is
 returns-in-Err-clause-is c = λ lanes.

@@ -26,9 +26,9 @@ returns-in-Ok g c =
     let s = c.new-subject.result in
     let behind-header : take (length file - 173) (drop 173 file) ≡ drop 173 file = behind 173 file in
     c.verdict_on.ensures
-    ∙ sym (ends lanes s (phase_of c.first-machine.result) (phase_of c.read-stop.new.self) c.split_at.result.1.now c.read-stop.result.left.now c.read-stop.result.refusal c.read-stop.ensures.stops c.read-stop.ensures.goes h)
-    ∙ whole-comes lanes p.elf p.input file h c.split_at.result.0.now c.split_at.result.1.now s (phase_of c.first-machine.result) (sym (c.in-Ok.ensures.exact lanes))
-    (c.split_at.ensures.front ∙ ap (λ (z : List ℕ). take h.length z) behind-header) (c.split_at.ensures.back ∙ ap (λ (z : List ℕ). drop h.length z) behind-header) c.new-subject.ensures c.first-machine.ensures.phase
+    ∙ sym (ends lanes s (phase_of lanes c.first-machine.result) (phase_of lanes c.read-stop.new.self) c.split_at.result.1.now c.read-stop.result.left.now c.read-stop.result.refusal c.read-stop.ensures.stops c.read-stop.ensures.goes h)
+    ∙ whole-comes lanes p.elf p.input file h c.split_at.result.0.now c.split_at.result.1.now s (phase_of lanes c.first-machine.result) (sym (c.in-Ok.ensures.exact lanes))
+    (c.split_at.ensures.front ∙ ap (λ (z : List ℕ). take h.length z) behind-header) (c.split_at.ensures.back ∙ ap (λ (z : List ℕ). drop h.length z) behind-header) c.new-subject.ensures (c.first-machine.ensures.phase lanes)
 
 pub returns-in-Err : goal.returns-in-Err
 returns-in-Err g c =

@@ -20,6 +20,5 @@ returns g c =
     let m = c.args.making in
     let s = c.args.start.now in
     let count : c.len.result ≡ length m.bytes.items = c.len.ensures ∙ m.bytes.ok.0 in
-    let digests = c.take.ensures.digests _ _ c.requires.made.covers in
-    piece-made g.L.Lanes.lanes m.hart.cells.image m.hart.input s c.requires.start m c.requires.made c.of.result c.take.result.0 c.take.result.1 _
-    (c.of.ensures ∙ c.in_ok-bytes.ensures ∙ (λ t. head_bytes (record { index = s.index; rows = s.rows; pc = s.place.pc; input = s.place.input; output = s.place.output; bytes = count t - HEAD_BYTES }) ++ drop HEAD_BYTES m.bytes.items ++ set_digest_bytes c.take.result.0.lanes ++ set_digest_bytes c.take.result.1.lanes)) digests.0 digests.1 (λ t. record { pc = c.pc.ensures.value t; input = c.position.ensures.value t; output = s.place.output + m.put })
+    piece-made g.L.Lanes.lanes m.hart.cells.image m.hart.input s c.requires.start m c.requires.made c.of.result c.digests.result.0 c.digests.result.1 _
+    (c.of.ensures ∙ c.in_ok-bytes.ensures ∙ (λ t. head_bytes (record { index = s.index; rows = s.rows; pc = s.place.pc; input = s.place.input; output = s.place.output; bytes = count t - HEAD_BYTES }) ++ drop HEAD_BYTES m.bytes.items ++ set_digest_bytes c.digests.result.0.lanes ++ set_digest_bytes c.digests.result.1.lanes)) (c.digests.ensures.reads ∙ c.requires.made.covers.reads) (c.digests.ensures.writes ∙ c.requires.made.covers.writes) (λ t. record { pc = c.pc.ensures.value t; input = c.position.ensures.value t; output = s.place.output + m.put })

@@ -3,6 +3,7 @@ use Rattle.rv_base.specs.declared.record.Refusal.{Refusal}
 use Rattle.rv_reading.specs.Machine.{Sums}
 use Rattle.rv_reading.specs.Machine.Phase.{Rows}
 use Rattle.rv_judge.specs.Phases.{sums_of}
+use Rattle.rv_judge.proofs.ShardSums.{nothing-taken}
 use Rattle.rv_judge.proofs.StepFound.{head-short, head-other, head-went, rows-fit}
 use Rattle.rv_judge.proofs.phases.Machine.begin_shard.Goals as goal
 
@@ -28,7 +29,7 @@ returns c = λ lanes.
           head-went lanes c.args.subject.now c.args.left c.args.shard m.place (sums_of m.all) c.args.bytes.now c.in-Some.head c.rows_of-rows.result c.requires.some c.in-Some.ensures.0 c.in-Some.ensures.1 c.rows_of-rows.ensures
           (sym c.is_head.ensures ∙ c.if-not-is_head.false)
           ∙ ap (λ (z : Sums). Ok (Some (Rows c.rows_of-rows.result 0 (c.args.left - 1) c.args.shard (record { head = c.in-Some.head; bytes = 0; sums = z }) m.place (sums_of m.all), drop 32 c.args.bytes.now)))
-          (sym c.none-self.ensures);
+          (nothing-taken lanes c.clear.new.self (c.clear.ensures lanes));
       taken = c.in-Some.ensures.0;
       fits = record {
         within = c.requires.fits.within;

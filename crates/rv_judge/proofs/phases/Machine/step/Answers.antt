@@ -16,4 +16,4 @@ returns-in_ok-begin_shard-in-Shards g c =
 pub returns-in_ok-end_shard-in-Rows : goal.returns-in_ok-end_shard-in-Rows
 returns-in_ok-end_shard-in-Rows g c =
     went-at g.L.Lanes.lanes c.args.subject.now c.args.self.now c.end_shard.new.self (Rows c.in-Rows.rows) c.args.bytes.now c.in_ok-end_shard-in-Rows.field-0
-    c.in-Rows.is (c.in_ok-end_shard-in-Rows.ensures g.L.Lanes.lanes)
+    c.in-Rows.is c.in_ok-end_shard-in-Rows.ensures

@@ -1,51 +1,58 @@
-use Rattle.std.proofs.Common.{rules, ◌≡◌, ◌+◌, ◌<◌, [], ◌∷◌, ◌++◌, Some, length, ap, ◌∙◌, arith}
-use Rattle.std.specs.Prelude.{sum_by}
-use Rattle.rv_pairs.proofs.MoreTuples.{one-more, over-none, over-some}
-use Rattle.rv_pairs.proofs.pairing.Pairing.access.Goals.{in-Some+then-eq, in-Some+else-eq, in-None}
+use Rattle.std.proofs.Common.{rules, ◌≡◌, ◌∙◌, ◌<◌, List, [], ◌∷◌, ℕ, length, get_or, set, take, refl, sym, ap, arith}
+use Rattle.rv_base.specs.declared.record.Tuple.{Tuple}
+use Rattle.rv_pairs.specs.Covers.{joined, read_digest, total, with_tuples, written_digest}
+use Rattle.rv_pairs.proofs.LaneSums.{joined-left, joined-right}
+use Rattle.rv_pairs.proofs.Waiting.{one-instead}
+use Rattle.rv_pairs.proofs.pairing.Pairing.access.Goals.{then-eq, else-eq}
 use Rattle.rv_pairs.proofs.pairing.Pairing.access.Goals as goal
 
-pub returns : goal.returns
-returns g c = λ rs ws covers.
-    let read = c.args.read in
-    let table = c.args.self.now.table.items in
-    let place = c.place_of-place.result in
-    let now = c.index.result.now in
-    let inside : place < length table = omega (arith, c.place_of-place.ensures, c.args.self.now.whole) in
-    elim c.match-index.branch [
-      | in-Some+then-eq w ↦
-          let last = w.in-Some.last in
-          let same : last ≡ read = search rules in
-          rw w.self-is record {
-            only_read = covers.only_read;
-            only_written = covers.only_written;
-            shared = covers.shared ++ read ∷ [];
-            reads_sum = covers.reads_sum;
-            writes_sum = covers.writes_sum;
-            both_sum = w.add.ensures covers.shared covers.both_sum;
-            all_read = λ f. omega (arith, one-more f rs covers.shared read (sum_by f covers.only_read) (omega (arith, covers.all_read f)));
-            all_written = λ f. omega (arith, over-some f ws covers.shared (sum_by f covers.only_written) table place now read c.args.written inside c.index.ensures (w.in-Some.is ∙ ap Some same) (omega (arith, covers.all_written f)));
-          }
-      | in-Some+else-eq w ↦
-          let last = w.in-Some.last in
-          rw w.self-is record {
-            only_read = covers.only_read ++ read ∷ [];
-            only_written = covers.only_written ++ last ∷ [];
-            shared = covers.shared;
-            reads_sum = w.add-else-eq-2.ensures covers.only_read covers.reads_sum;
-            writes_sum = w.add-else-eq.ensures covers.only_written covers.writes_sum;
-            both_sum = covers.both_sum;
-            all_read = λ f. one-more f rs covers.only_read read (sum_by f covers.shared) (covers.all_read f);
-            all_written = λ f. over-some f ws covers.only_written (sum_by f covers.shared) table place now last c.args.written inside c.index.ensures w.in-Some.is (covers.all_written f);
-          }
-      | in-None w ↦
-          rw w.self-is record {
-            only_read = covers.only_read ++ read ∷ [];
-            only_written = covers.only_written;
-            shared = covers.shared;
-            reads_sum = w.add-in-None.ensures covers.only_read covers.reads_sum;
-            writes_sum = covers.writes_sum;
-            both_sum = covers.both_sum;
-            all_read = λ f. one-more f rs covers.only_read read (sum_by f covers.shared) (covers.all_read f);
-            all_written = λ f. over-none f ws (sum_by f covers.only_written + sum_by f covers.shared) table place now c.args.written inside c.index.ensures w.in-None.is (covers.all_written f);
-          }
+pub returns-after-eq-clause-reads : goal.returns-after-eq-clause-reads
+unfolding read_digest
+returns-after-eq-clause-reads g c =
+    let p = c.args.self.now in
+    let lanes = g.L.Lanes.lanes in
+    let t = c.args.read ∷ [] in
+    elim c.if-eq.branch [
+      | then-eq w ↦ rw w.self-is (ap (λ (z : List ℕ). joined (total lanes p.reads) z) w.add.ensures ∙ joined-right lanes (total lanes p.reads) (total lanes p.both) t)
+      | else-eq w ↦ rw w.self-is (ap (λ (z : List ℕ). joined z (total lanes p.both)) w.add-else-eq-2.ensures ∙ joined-left lanes (total lanes p.reads) (total lanes p.both) t)
     ]
+
+pub returns-after-eq-clause-writes : goal.returns-after-eq-clause-writes
+unfolding written_digest
+returns-after-eq-clause-writes g c =
+    let p = c.args.self.now in
+    let lanes = g.L.Lanes.lanes in
+    let long : length p.waiting ≡ 1056 = search rules in
+    let at = c.in-Some.at in
+    let writes = total lanes p.writes in
+    let both = total lanes p.both in
+    let now = take p.count (set p.waiting at c.args.written) in
+    let below : at < p.count = omega (arith, c.in-Some.ensures) in
+    let inside : at < length p.waiting = omega (arith, below, p.few, long) in
+    elim c.if-eq.branch [
+      | then-eq w ↦
+          let d : Tuple = record { cell = 0; value = 0; time = 0 } in
+          let same : get_or p.waiting at d ≡ c.args.read = search rules in
+          rw w.self-is (
+          ap (λ (z : List ℕ). with_tuples lanes (joined writes z) now) w.add.ensures
+          ∙ ap (λ (z : List ℕ). with_tuples lanes z now) (joined-right lanes writes both (c.args.read ∷ []))
+          ∙ one-instead lanes (joined writes both) p.waiting p.count at c.args.read c.args.written _ below inside (sym same)
+          )
+      | else-eq w ↦
+          rw w.self-is (
+          ap (λ (z : List ℕ). with_tuples lanes (joined z both) now) w.add-else-eq.ensures
+          ∙ ap (λ (z : List ℕ). with_tuples lanes z now) (joined-left lanes writes both _)
+          ∙ one-instead lanes (joined writes both) p.waiting p.count at _ c.args.written _ below inside refl
+          )
+    ]
+
+pub returns-in-None-clause-reads : goal.returns-in-None-clause-reads
+unfolding read_digest
+returns-in-None-clause-reads g c =
+    let p = c.args.self.now in
+    let lanes = g.L.Lanes.lanes in
+    c.wait.ensures.reads ∙ ap (λ (z : List ℕ). joined z (total lanes p.both)) c.add-in-None.ensures ∙ joined-left lanes (total lanes p.reads) (total lanes p.both) (c.args.read ∷ [])
+
+pub returns-in-None-clause-writes : goal.returns-in-None-clause-writes
+unfolding written_digest
+returns-in-None-clause-writes g c = c.wait.ensures.writes

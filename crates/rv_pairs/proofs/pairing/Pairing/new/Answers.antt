@@ -1,14 +1,10 @@
-use Rattle.std.proofs.Common.{rules, [], refl}
+use Rattle.rv_pairs.specs.Covers.{read_digest, written_digest}
+use Rattle.rv_pairs.proofs.LaneSums.{no-tuples, nothing-joined}
 use Rattle.rv_pairs.proofs.pairing.Pairing.new.Goals as goal
 
 pub returns : goal.returns
+unfolding read_digest written_digest
 returns c = λ lanes. record {
-  only_read = [];
-  only_written = [];
-  shared = [];
-  reads_sum = c.new.ensures lanes;
-  writes_sum = c.new-2.ensures lanes;
-  both_sum = c.new-3.ensures lanes;
-  all_read = λ f. refl;
-  all_written = λ f. search rules;
+  reads = nothing-joined lanes _ _ (c.new.ensures lanes) (c.new-3.ensures lanes);
+  writes = no-tuples lanes _ (nothing-joined lanes _ _ (c.new-2.ensures lanes) (c.new-3.ensures lanes));
 }

@@ -29,8 +29,8 @@ loop-done-preserved g c =
     let number : k + c.from.result ≡ k + m = ap (λ x. k + x) c.from.ensures in
     let makes = row-made i input lanes k n m (k + c.from.result) old c.step.new.self s c.requires.program c.requires.bytes number c.loop-done-test.true c.loop-done.invariant
     c.step.ensures.image c.step.ensures.input c.in_ok-taken.ensures.ok c.in_ok-taken.ensures.times in
-    let new : Making = record { hart = c.step.new.self; pairing = c.pair_accesses.new.pairing; bytes = c.write_row.new.to; put = old.put + c.from-in-loop-done.result } in
+    let new : Making = record { hart = c.step.new.self; pairing = c.accesses.new.self; bytes = c.write_row.new.to; put = old.put + c.from-in-loop-done.result } in
     made-more i input lanes k n m old new s c.loop-done.invariant makes c.in_ok-write_row.ensures.ok
     (λ rs ws covers. subst (λ (as_read : List Access). Covers lanes new.pairing (rs ++ map tuple_read (map (event (k + m)) as_read)) (ws ++ map tuple_written (map (event (k + m)) as_read))) c.as_slice.ensures.value
-    (subst (λ x. Covers lanes new.pairing (rs ++ map tuple_read (map (event x) c.as_slice.result.now)) (ws ++ map tuple_written (map (event x) c.as_slice.result.now))) number (c.pair_accesses.ensures rs ws covers)))
+    (subst (λ x. Covers lanes new.pairing (rs ++ map tuple_read (map (event x) c.as_slice.result.now)) (ws ++ map tuple_written (map (event x) c.as_slice.result.now))) number (c.accesses.ensures.covers rs ws covers)))
     (ap (λ x. old.put + x) c.from-in-loop-done.ensures)
