@@ -74,7 +74,11 @@ fn faults_with_names_and_numbers_are_told_so(rt: HostRuntime) -> Result<(), Fail
         (Fault::Assembly(4, 4), 13, "fault asm 4 4 Operands\n"),
         (Fault::Assembly(1, 5), 13, "fault asm 1 5 Undefined\n"),
         (Fault::Assembly(1, 6), 13, "fault asm 1 6 Range\n"),
-        (Fault::Assembly(65_537, 7), 13, "fault asm 65537 7 TooLong\n"),
+        (
+            Fault::Assembly(65_537, 7),
+            13,
+            "fault asm 65537 7 TooLong\n",
+        ),
     ] {
         let mut sink = MemSink::new(rt.alloc());
         assert_eq!(rt; tell(rt.alloc(), &mut sink, Err(fault)), status);
