@@ -1,11 +1,10 @@
 -- The words of a source are those of its statements.
-use Rattle.std.proofs.Common.{◌≡◌, ℕ, zero, suc, ◌+◌, ◌<◌, Bool, true, false, not, cond, List, [], ◌∷◌, ◌++◌, length, get_or, slice_get, Option, Some, None, Result, Ok, Err, ◌==◌, refl, ap, sym, ◌∙◌, subst, arith}
+use Rattle.std.proofs.Common.{◌≡◌, ℕ, zero, suc, ◌+◌, ◌<◌, Bool, true, false, not, cond, List, [], ◌∷◌, ◌++◌, length, get_or, slice_get, Option, Some, None, Result, Ok, Err, ◌==◌, refl, ap, sym, subst, arith}
 use Rattle.std.specs.Option.{option_to_list}
 use Rattle.std.specs.List.{list_all}
 use Rattle.std.specs.Str.Lines.{lines}
 use Rattle.rv_spec.specs.Elf.{Image}
 use Rattle.rv_asm.specs.declared.faults.AsmFault.{AsmFault}
-use Rattle.rv_asm.specs.declared.faults.AsmFault.TheVariants.{At}
 use Rattle.rv_asm.specs.Lines.{code, is_plain, label_text, statement_text}
 use Rattle.rv_asm.specs.Symbols.{Symbol, distance}
 use Rattle.rv_asm.specs.Statements.{statement_word}
