@@ -7,6 +7,7 @@ pub mod AssemblyLaws
 pub mod ListedLaws
 pub mod ImageLaws
 pub mod DecodeLaws
+pub mod StatementLaws
 pub mod Spelling
 pub mod OperandTexts
 pub mod Reading

@@ -16,7 +16,7 @@ use Rattle.rv_plan.specs.declared.told.Told.{Told}
 use Rattle.rv_plan.specs.declared.faults.Fault.{Fault}
 use Rattle.rv_plan.specs.declared.faults.Limited.{Limited}
 use Rattle.rv_plan.specs.declared.faults.Limited.TheVariants as limited
-use Rattle.rv_plan.specs.declared.faults.Fault.TheVariants.{Words, Elf, Budget, Read, Write, Memory, Limit, Part, Step}
+use Rattle.rv_plan.specs.declared.faults.Fault.TheVariants.{Words, Elf, Budget, Read, Write, Memory, Limit, Part, Step, Assembly}
 
 apart : {m n : ℕ} → (m == n) ≡ false → m ≢ n
 apart {m} {n} e = eqb-false m n e
@@ -36,6 +36,7 @@ refusal-listed Memory = at-most-8 _ (omega arith) (λ _. refl)
 refusal-listed (Limit what) = at-most-8 _ (omega arith) (λ _. refl)
 refusal-listed (Part number fault) = record { status = inr (omega arith, omega arith); writes = λ _. refl }
 refusal-listed (Step steps) = record { status = inr (omega arith, omega arith); writes = λ _. refl }
+refusal-listed (Assembly at kind) = record { status = inr (omega arith, omega arith); writes = λ _. refl }
 
 pub success-listed : (o : Outcome) → o.status ≡ 0 → IsListed o
 success-listed o is = at-most-8 o (omega (arith, is)) (λ n. absurd (n is))
@@ -137,10 +138,11 @@ stopped p s s' Memory h = no_memory h.1 refl refl h.0
 stopped p s s' (Limit what) h = refused p s s' (Limit what) h
 stopped p s s' (Part number fault) h = refused p s s' (Part number fault) h
 stopped p s s' (Step steps) h = refused p s s' (Step steps) h
+stopped p s s' (Assembly at kind) h = refused p s s' (Assembly at kind) h
 
 -- the statuses of faults with a number
 abbrev is_numbered : ℕ → Bool
-is_numbered n = n == 3 || (n == 4 || (n == 11 || n == 12))
+is_numbered n = n == 3 || (n == 4 || (n == 11 || (n == 12 || n == 13)))
 
 numbered-status : (f : Fault) → is_numbered (status_of f) ≡ has_number f
 numbered-status Words = refl
@@ -152,6 +154,7 @@ numbered-status Memory = refl
 numbered-status (Limit what) = refl
 numbered-status (Part number fault) = refl
 numbered-status (Step steps) = refl
+numbered-status (Assembly at kind) = refl
 
 -- a fault with a number is no fault without one
 numbered-apart : (e f : Fault) → has_number e ≡ true → has_number f ≡ false → refuses e ≢ refuses f
@@ -168,6 +171,7 @@ unnumbered p s s' (Elf e) n h = (h.0, numbered-takes p s.files (Elf e) n h.1)
 unnumbered p s s' (Budget b) n h = (h.0, numbered-takes p s.files (Budget b) n h.1)
 unnumbered p s s' (Part number fault) n h = (h.0, numbered-takes p s.files (Part number fault) n h.1)
 unnumbered p s s' (Step steps) n h = (h.0, numbered-takes p s.files (Step steps) n h.1)
+unnumbered p s s' (Assembly at kind) n h = (h.0, numbered-takes p s.files (Assembly at kind) n h.1)
 unnumbered p s s' Words n h = absurd (false≢true n)
 unnumbered p s s' Read n h = absurd (false≢true n)
 unnumbered p s s' Write n h = absurd (false≢true n)

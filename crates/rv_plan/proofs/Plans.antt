@@ -17,7 +17,7 @@ use Rattle.rv_plan.specs.FileCalls.{IsUnchanged, Loads, Performs, PerformsBehind
 use Rattle.rv_plan.specs.declared.faults.Fault.{Fault}
 use Rattle.rv_plan.specs.declared.faults.Limited.{Limited}
 use Rattle.rv_plan.specs.declared.faults.Limited.TheVariants as limited
-use Rattle.rv_plan.specs.declared.faults.Fault.TheVariants.{Words, Elf, Budget, Read, Write, Memory, Limit, Part, Step}
+use Rattle.rv_plan.specs.declared.faults.Fault.TheVariants.{Words, Elf, Budget, Read, Write, Memory, Limit, Part, Step, Assembly}
 use Rattle.rv_plan.specs.declared.loading.Loaded.{Loaded}
 use Rattle.rv_plan.specs.declared.told.Told.{Told}
 
@@ -86,6 +86,7 @@ read-stops name limit what s s' (Elf e) next h = absurd h
 read-stops name limit what s s' (Budget n) next h = absurd h
 read-stops name limit what s s' (Part number fault) next h = absurd h
 read-stops name limit what s s' (Step steps) next h = absurd h
+read-stops name limit what s s' (Assembly at kind) next h = absurd h
 read-stops name limit what s s' Read next h = (h.0, inl h.1)
 read-stops name limit what s s' Write next h = absurd h
 read-stops name limit what s s' Memory next h = (h, tt)
@@ -105,6 +106,7 @@ input-refused elf input bytes before middle after (Elf e) was h next = absurd h
 input-refused elf input bytes before middle after (Budget n) was h next = absurd h
 input-refused elf input bytes before middle after (Part number fault) was h next = absurd h
 input-refused elf input bytes before middle after (Step steps) was h next = absurd h
+input-refused elf input bytes before middle after (Assembly at kind) was h next = absurd h
 input-refused elf input bytes before middle after Read was h next =
     (after-both before middle after was.0 h.0, fails-within before after elf ELF_LIMIT limited.Elf _ bytes was.1 was.2 (inl (subst (λ n. Rose n (after.read_faults input)) (was.0.reads input) h.1)))
 input-refused elf input bytes before middle after Write was h next = absurd h
@@ -166,6 +168,7 @@ lift-stops s s' s'' p q (Elf e) same takes on fails h = (leaves-behind same h.0,
 lift-stops s s' s'' p q (Budget n) same takes on fails h = (leaves-behind same h.0, on (refuses (Budget n)) (reaches-before p (refuses (Budget n)) same h.1))
 lift-stops s s' s'' p q (Part number fault) same takes on fails h = (leaves-behind same h.0, on (refuses (Part number fault)) (reaches-before p (refuses (Part number fault)) same h.1))
 lift-stops s s' s'' p q (Step steps) same takes on fails h = (leaves-behind same h.0, on (refuses (Step steps)) (reaches-before p (refuses (Step steps)) same h.1))
+lift-stops s s' s'' p q (Assembly at kind) same takes on fails h = (leaves-behind same h.0, on (refuses (Assembly at kind)) (reaches-before p (refuses (Assembly at kind)) same h.1))
 lift-stops s s' s'' p q Read same takes on fails h = (leaves-behind same h.0, fails (fails-before s s' s'' p same h.1))
 lift-stops s s' s'' p q Write same takes on fails h = (h.0, on h.0 (reaches-before p h.0 same h.1), writes-fail h.0.writes s s' s'' same h.2)
 lift-stops s s' s'' p q Memory same takes on fails h = (leaves-behind same h, takes)
@@ -206,6 +209,7 @@ performs-behind p s s' (Err (Elf e)) h = h
 performs-behind p s s' (Err (Budget n)) h = h
 performs-behind p s s' (Err (Part number fault)) h = h
 performs-behind p s s' (Err (Step steps)) h = h
+performs-behind p s s' (Err (Assembly at kind)) h = h
 performs-behind p s s' (Err Read) h = h
 performs-behind p s s' (Err Write) h = h
 performs-behind p s s' (Err Memory) h = h.0

@@ -6,8 +6,8 @@ use Rattle.rv_plan.specs.declared.faults.Limited.TheVariants as limited
 use Rattle.rv_plan.specs.declared.faults.PartFault.{PartFault}
 use Rattle.rv_plan.specs.declared.faults.PartFault.TheVariants as part
 use Rattle.rv_plan.specs.declared.faults.Fault.{Fault}
-use Rattle.rv_plan.specs.declared.faults.Fault.TheVariants.{Words, Elf, Budget, Read, Write, Memory, Limit, Part, Step}
-use Rattle.rv_plan.specs.Lines.{line, elf_line, budget_line, limit_line, part_line, step_line}
+use Rattle.rv_plan.specs.declared.faults.Fault.TheVariants.{Words, Elf, Budget, Read, Write, Memory, Limit, Part, Step, Assembly}
+use Rattle.rv_plan.specs.Lines.{line, elf_line, budget_line, limit_line, part_line, step_line, assembly_line}
 
 abbrev pub status_of : Fault → ℕ
 status_of Words = 2
@@ -19,6 +19,7 @@ status_of Memory = 7
 status_of (Limit _) = 8
 status_of (Part _ _) = 11
 status_of (Step _) = 12
+status_of (Assembly _ _) = 13
 
 abbrev pub name_of : Limited → List ℕ
 name_of limited.Elf = codes "elf"
@@ -26,6 +27,7 @@ name_of limited.Input = codes "input"
 name_of limited.Record = codes "record"
 name_of limited.Shards = codes "shards"
 name_of limited.Parts = codes "parts"
+name_of limited.Source = codes "source"
 
 abbrev pub what_of : PartFault → List ℕ
 what_of part.Head = codes "head"
@@ -43,6 +45,7 @@ line_of Memory = line (codes "fault memory")
 line_of (Limit what) = limit_line (name_of what)
 line_of (Part number fault) = part_line number (what_of fault)
 line_of (Step steps) = step_line steps
+line_of (Assembly at kind) = assembly_line at kind
 
 -- the lines that tell a number
 abbrev pub has_number : Fault → Bool
@@ -50,4 +53,5 @@ has_number (Elf _) = true
 has_number (Budget _) = true
 has_number (Part _ _) = true
 has_number (Step _) = true
+has_number (Assembly _ _) = true
 has_number _ = false

@@ -30,3 +30,10 @@ part_line number what = line (codes "fault part " ++ decimal number ++ 32 ∷ wh
 
 abbrev pub step_line : ℕ → List ℕ
 step_line steps = line (codes "fault step " ++ decimal steps)
+
+-- the kinds of an assembler's faults in order of their numbers
+abbrev pub kind_names : List (List ℕ)
+kind_names = codes "Bytes" ∷ codes "Label" ∷ codes "Statement" ∷ codes "Operands" ∷ codes "Undefined" ∷ codes "Range" ∷ codes "TooLong" ∷ []
+
+abbrev pub assembly_line : ℕ → ℕ → List ℕ
+assembly_line at kind = line (codes "fault asm " ++ decimal at ++ 32 ∷ decimal kind ++ 32 ∷ name_at kind_names kind)

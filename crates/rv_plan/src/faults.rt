@@ -2,7 +2,7 @@
 
 ghost use Rattle.std.specs.Prelude.{◌≡◌, IfOk, IsTrue, MatchOption, string_bytes};
 ghost use Rattle.rv_elf.specs.Faults.{number_of};
-ghost use Rattle.rv_plan.specs.Lines.{name_at, fault_names, elf_line as elf_line_of, part_line as part_line_of};
+ghost use Rattle.rv_plan.specs.Lines.{name_at, fault_names, assembly_line as assembly_line_of, elf_line as elf_line_of, kind_names, part_line as part_line_of};
 ghost use Rattle.rv_plan.specs.Faults.{status_of, line_of, has_number, what_of};
 
 use rv_base::{NoMemory, Text};
@@ -22,6 +22,8 @@ pub enum Limited {
     Shards,
     /// As many parts of a record as it has shards.
     Parts,
+    /// 1,048,576 bytes of a source.
+    Source,
 }
 
 /// Why a file is not the part of a record that its number says.
@@ -58,6 +60,8 @@ pub enum Fault {
     Part(u32, PartFault),
     /// A step is asked for that the record doesn't have; it has this number of steps.
     Step(u64),
+    /// A source isn't assembled: the line, counted from 1, of its first fault, and the kind of that, from 1 on.
+    Assembly(u32, u8),
 }
 
 impl Fault {
@@ -75,6 +79,7 @@ impl Fault {
             Fault::Limit(_) => 8,
             Fault::Part(_, _) => 11,
             Fault::Step(_) => 12,
+            Fault::Assembly(_, _) => 13,
         }
     }
 
@@ -84,7 +89,11 @@ impl Fault {
     {
         match self {
             Fault::Words => Some("fault words\n"),
-            Fault::Elf(_) | Fault::Budget(_) | Fault::Part(_, _) | Fault::Step(_) => None,
+            Fault::Elf(_)
+            | Fault::Budget(_)
+            | Fault::Part(_, _)
+            | Fault::Step(_)
+            | Fault::Assembly(_, _) => None,
             Fault::Read => Some("fault read\n"),
             Fault::Write => Some("fault write\n"),
             Fault::Memory => Some("fault memory\n"),
@@ -93,6 +102,7 @@ impl Fault {
             Fault::Limit(Limited::Record) => Some("fault limit record\n"),
             Fault::Limit(Limited::Shards) => Some("fault limit shards\n"),
             Fault::Limit(Limited::Parts) => Some("fault limit parts\n"),
+            Fault::Limit(Limited::Source) => Some("fault limit source\n"),
         }
     }
 
@@ -106,6 +116,7 @@ impl Fault {
             Fault::Budget(steps) => format!(in alloc; "fault budget {steps}\n"),
             Fault::Part(number, fault) => part_line(alloc, *number, *fault),
             Fault::Step(steps) => format!(in alloc; "fault step {steps}\n"),
+            Fault::Assembly(at, kind) => assembly_line(alloc, *at, *kind),
             _ => unreachable!(),
         };
         match line {
@@ -130,6 +141,30 @@ fn part_line(alloc: Global, number: u32, fault: PartFault) -> Result<String, All
     let what = part_fault_name(fault);
     let line = format!(in alloc; "fault part {number} {what}\n")?;
     Ok(line)
+}
+
+fn assembly_line(alloc: Global, at: u32, kind: u8) -> Result<String, AllocError>
+    ensures { IfOk result (λ text. string_bytes text ≡ assembly_line_of at kind) }
+{
+    let name = kind_name(kind);
+    let line = format!(in alloc; "fault asm {at} {kind} {name}\n")?;
+    Ok(line)
+}
+
+/// The name of a kind of an assembler's faults, as the line prints it. A number of no kind has none.
+fn kind_name(kind: u8) -> &'static str
+    ensures { result.now ≡ name_at kind_names kind }
+{
+    match kind {
+        1 => "Bytes",
+        2 => "Label",
+        3 => "Statement",
+        4 => "Operands",
+        5 => "Undefined",
+        6 => "Range",
+        7 => "TooLong",
+        _ => "",
+    }
 }
 
 /// The name of a fault of a part, as the line prints it.

@@ -67,6 +67,18 @@ fn faults_with_names_and_numbers_are_told_so(rt: HostRuntime) -> Result<(), Fail
         (Fault::Part(0, PartFault::Cover), 11, "fault part 0 cover\n"),
         (Fault::Part(2, PartFault::Cut), 11, "fault part 2 cut\n"),
         (Fault::Step(3), 12, "fault step 3\n"),
+        (Fault::Limit(Limited::Source), 8, "fault limit source\n"),
+        (Fault::Assembly(1, 1), 13, "fault asm 1 1 Bytes\n"),
+        (Fault::Assembly(2, 2), 13, "fault asm 2 2 Label\n"),
+        (Fault::Assembly(30, 3), 13, "fault asm 30 3 Statement\n"),
+        (Fault::Assembly(4, 4), 13, "fault asm 4 4 Operands\n"),
+        (Fault::Assembly(1, 5), 13, "fault asm 1 5 Undefined\n"),
+        (Fault::Assembly(1, 6), 13, "fault asm 1 6 Range\n"),
+        (
+            Fault::Assembly(65_537, 7),
+            13,
+            "fault asm 65537 7 TooLong\n",
+        ),
     ] {
         let mut sink = MemSink::new(rt.alloc());
         assert_eq!(rt; tell(rt.alloc(), &mut sink, Err(fault)), status);

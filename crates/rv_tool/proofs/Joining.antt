@@ -312,6 +312,7 @@ file-added n elf input new p j ps file x (Err fault.Read) e same front adds = ab
 file-added n elf input new p j ps file x (Err fault.Write) e same front adds = absurd adds
 file-added n elf input new p j ps file x (Err (fault.Limit _)) e same front adds = absurd adds
 file-added n elf input new p j ps file x (Err (fault.Step _)) e same front adds = absurd adds
+file-added n elf input new p j ps file x (Err (fault.Assembly _ _)) e same front adds = absurd adds
 
 -- ---- part 0
 
@@ -367,6 +368,7 @@ first-part w elf input file x new (Err g) e checked adds f is = let same : g ≡
     go fault.Write h = absurd h
     go (fault.Limit _) h = absurd h
     go (fault.Step _) h = absurd h
+    go (fault.Assembly _ _) h = absurd h
 
 pub first-added : (w : JoinWords) (elf input file : List ℕ) (o : Opened) → opened w.parts 0 file ≡ Ok o → unless_broken 0 0 (header_checks true sha_lanes elf input o.front) (header_of o.front) ≡ Ok (header_of o.front)
     → added elf input (begun o.front) o ≡ Ok (with_part (begun o.front) o) → behind_first w elf input file ≡ parts_from w elf input (w.parts - 1) 1 (with_part (begun o.front) o)
@@ -403,6 +405,7 @@ part-stops w elf input more p j ps file new s fault.Read h = absurd h
 part-stops w elf input more p j ps file new s fault.Write h = absurd h
 part-stops w elf input more p j ps file new s (fault.Limit _) h = absurd h
 part-stops w elf input more p j ps file new s (fault.Step _) h = absurd h
+part-stops w elf input more p j ps file new s (fault.Assembly _ _) h = absurd h
 
 pub part-unread : (w : JoinWords) (elf input : List ℕ) (p : ℕ) (old new : Joining) (s s' : ShelfView) (f : Fault) → ReadsWithin (part_name w.name p) RECORD_LIMIT limited.Record s s' (Err f) → ReadsPart w elf input p old new s s' (Err f)
 part-unread w elf input p old new s s' f read j ps more is = read-stops (part_name w.name p) RECORD_LIMIT limited.Record s s' f (part_plan w elf input more p j) read
@@ -424,6 +427,7 @@ begins-stops w elf input file s fault.Read h = absurd h
 begins-stops w elf input file s fault.Write h = absurd h
 begins-stops w elf input file s (fault.Limit _) h = absurd h
 begins-stops w elf input file s (fault.Step _) h = absurd h
+begins-stops w elf input file s (fault.Assembly _ _) h = absurd h
 
 pub first-unread : (w : JoinWords) (elf input : List ℕ) (s s' : ShelfView) (f : Fault) → ReadsWithin (part_name w.name 0) RECORD_LIMIT limited.Record s s' (Err f) → ReadsFirst w elf input s s' (Err f)
 first-unread w elf input s s' f read = read-stops (part_name w.name 0) RECORD_LIMIT limited.Record s s' f (behind_first w elf input) read

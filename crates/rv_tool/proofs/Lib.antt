@@ -1,6 +1,7 @@
 mod AnswerText
 mod Arguments
 mod Asked
+mod Assembling
 mod CheckOfMade
 mod Checking
 mod Differing

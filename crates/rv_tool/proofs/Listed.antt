@@ -17,13 +17,18 @@ use Rattle.rv_rules.specs.Verdict.{judge, parse, verdict}
 use Rattle.rv_plan.specs.Plan.{Outcome, Plan, answer, read, read_within, refuses}
 use Rattle.rv_plan.specs.Answers.{AllListed, IsListed}
 use Rattle.rv_plan.specs.declared.faults.Limited.TheVariants as limited
-use Rattle.rv_plan.specs.declared.faults.Fault.TheVariants.{Words, Budget, Limit, Step, Part}
+use Rattle.rv_plan.specs.declared.faults.Fault.TheVariants.{Words, Budget, Limit, Step, Part, Memory, Assembly}
 use Rattle.rv_plan.proofs.Lemmas.{at-most-8, listed-answer, listed-if, listed-program, listed-read, listed-within, refusal-listed, success-listed}
-use Rattle.rv_tool.specs.CommandLine.{MakeWords, RunWords, TrialWords, CommandWords, make, check, settle, run, explain, trial, state, cell, SplitWords, JoinWords, split, join}
+use Rattle.rv_tool.specs.CommandLine.{MakeWords, RunWords, TrialWords, CommandWords, make, check, settle, run, explain, trial, state, cell, SplitWords, JoinWords, AsmWords, split, join, asm}
+use Rattle.rv_asm.specs.Assembly.{assembly, symbols_of}
+use Rattle.rv_asm.specs.Symbols.{Symbol}
+use Rattle.rv_asm.specs.declared.faults.AsmFault.{AsmFault}
+use Rattle.rv_asm.specs.declared.faults.AsmFault.TheVariants.{At, NoMemory}
+use Rattle.rv_asm.specs.declared.limits.TheConstants.{SOURCE_LIMIT}
 use Rattle.rv_trial.specs.Trials.{ends_within, budget, trial as trial_told}
 use Rattle.rv_trial.specs.declared.summary.Trial.{Trial}
 use Rattle.rv_tool.specs.Differing.{least_differing}
-use Rattle.rv_tool.specs.Outcome.{denies, ran, made, told_verdict, settled, settled_by, explained, tried, answered, asked, question_plan, state_text, cell_text, make_plan, read_record, check_plan, settle_plan, run_plan, plan_of, plan, cut, unless_fault, unless_refused, parts_from, behind_first, all_parts}
+use Rattle.rv_tool.specs.Outcome.{denies, ran, made, told_verdict, settled, settled_by, explained, tried, answered, asked, question_plan, state_text, cell_text, make_plan, read_record, check_plan, settle_plan, run_plan, plan_of, plan, cut, unless_fault, unless_refused, parts_from, behind_first, all_parts, assembled}
 use Rattle.rv_plan.specs.declared.faults.PartFault.{PartFault}
 use Rattle.rv_tool.specs.Parts.{Joined, added, added_behind, begun, opened, part_name, whole_of}
 
@@ -101,6 +106,11 @@ first-listed w elf input file =
     (λ x. unless_refused-listed (unless_broken 0 0 (header_checks true sha_lanes elf input x.front) (header_of x.front)) _
     (unless_fault-listed 0 (added elf input (begun x.front) x) (parts_from w elf input (w.parts - 1) 1) (parts-listed w elf input (w.parts - 1) 1)))
 
+assembled-listed : (w : AsmWords) (symbols : List Symbol) (r : Result (List ℕ) AsmFault) → IsListed (assembled w symbols r)
+assembled-listed w symbols (Err (At n kind)) = refusal-listed (Assembly n kind)
+assembled-listed w symbols (Err NoMemory) = refusal-listed Memory
+assembled-listed w symbols (Ok words) = success-listed _ refl
+
 command-listed : (c : CommandWords) → AllListed (plan_of c)
 command-listed (make w) =
     listed-program w.elf w.input (make_plan w) (λ program given. listed-answer _ (made-listed w program given (ends_within (image w.version program) given w.budget)))
@@ -118,6 +128,8 @@ command-listed (cell w) = listed-program w.elf w.input (question_plan w.file (ce
 command-listed (split w) = listed-within w.file RECORD_LIMIT limited.Record (λ file. answer (cut w (parse file))) (λ file. listed-answer _ (cut-listed w (parse file)))
 command-listed (join w) =
     listed-program w.elf w.input (all_parts w) (λ program given. listed-within (part_name w.name 0) RECORD_LIMIT limited.Record (behind_first w program given) (first-listed w program given))
+command-listed (asm w) =
+    listed-within w.source SOURCE_LIMIT limited.Source (λ source. answer (assembled w (symbols_of source) (assembly source))) (λ source. listed-answer _ (assembled-listed w (symbols_of source) (assembly source)))
 
 pub plan-listed : (c : Option CommandWords) → AllListed (plan c)
 plan-listed None = listed-answer (refuses Words) (refusal-listed Words)

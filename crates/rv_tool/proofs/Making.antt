@@ -22,7 +22,7 @@ use Rattle.rv_plan.specs.Plan.{Outcome, refuses, with_due}
 use Rattle.rv_plan.specs.Endings.{Leaves}
 use Rattle.rv_plan.specs.FileCalls.{Loads, Performs, PerformsBehind, Writes}
 use Rattle.rv_plan.specs.declared.faults.Fault.{Fault}
-use Rattle.rv_plan.specs.declared.faults.Fault.TheVariants.{Words, Elf, Budget, Read, Write, Memory, Limit, Part, Step}
+use Rattle.rv_plan.specs.declared.faults.Fault.TheVariants.{Words, Elf, Budget, Read, Write, Memory, Limit, Part, Step, Assembly}
 use Rattle.rv_plan.specs.declared.faults.Limited.TheVariants as limited
 use Rattle.rv_plan.specs.declared.loading.Loaded.{Loaded}
 use Rattle.rv_plan.specs.declared.told.Told.{Told}
@@ -90,6 +90,7 @@ unsurveyed w elf input s s' Words h k = absurd k
 unsurveyed w elf input s s' (Elf e) h k = absurd k
 unsurveyed w elf input s s' (Part number fault) h k = absurd k
 unsurveyed w elf input s s' (Step steps) h k = absurd k
+unsurveyed w elf input s s' (Assembly at kind) h k = absurd k
 unsurveyed w elf input s s' (Budget n) h k = (h, ap (λ m. refuses (Budget m)) k.0 ∙ sym (ap (made w elf input) (none-within (image w.version elf) input w.budget k.1)))
 unsurveyed w elf input s s' Read h k = absurd k
 unsurveyed w elf input s s' Write h k = absurd k

@@ -8,7 +8,7 @@ use Rattle.rv_plan.specs.Answers.Prints.{whole, torn}
 use Rattle.rv_plan.specs.Endings.{Ends, TakesMemory, WriteFails}
 use Rattle.rv_plan.specs.Endings.Ends.{done, unread, unwritten, no_memory}
 use Rattle.rv_plan.specs.FileCalls.{IsUnchanged, Performs, Stops}
-use Rattle.rv_plan.specs.declared.faults.Fault.TheVariants.{Words, Elf, Budget, Read, Write, Memory, Limit, Part, Step}
+use Rattle.rv_plan.specs.declared.faults.Fault.TheVariants.{Words, Elf, Budget, Read, Write, Memory, Limit, Part, Step, Assembly}
 use Rattle.rv_plan.specs.declared.told.Told.{Told}
 use Rattle.rv_trial.specs.Trials.{IsTold, trial as trial_told}
 use Rattle.rv_trial.specs.declared.summary.Trial.{Trial}
@@ -33,6 +33,7 @@ takes-memory w None (Elf e) h = absurd (true≢false h)
 takes-memory w None (Budget n) h = absurd (true≢false h)
 takes-memory w None (Part number fault) h = absurd (true≢false h)
 takes-memory w None (Step steps) h = absurd (true≢false h)
+takes-memory w None (Assembly at kind) h = absurd (true≢false h)
 takes-memory w None Read h = differ _ (refuses Read) refl
 takes-memory w None Write h = differ _ (refuses Write) refl
 takes-memory w None Memory h = differ _ (refuses Memory) refl
@@ -42,6 +43,7 @@ takes-memory w (Some t) (Elf e) h = absurd (true≢false h)
 takes-memory w (Some t) (Budget n) h = absurd (true≢false h)
 takes-memory w (Some t) (Part number fault) h = absurd (true≢false h)
 takes-memory w (Some t) (Step steps) h = absurd (true≢false h)
+takes-memory w (Some t) (Assembly at kind) h = absurd (true≢false h)
 takes-memory w (Some t) Read h = differ _ (refuses Read) refl
 takes-memory w (Some t) Write h = differ _ (refuses Write) refl
 takes-memory w (Some t) Memory h = differ _ (refuses Memory) refl

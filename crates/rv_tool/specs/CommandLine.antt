@@ -125,6 +125,11 @@ pub record JoinWords : Type 0 where
   pub name : List ℕ
   pub parts : ℕ
 
+-- asm SOURCE ELF
+pub record AsmWords : Type 0 where
+  pub source : List ℕ
+  pub target : List ℕ
+
 -- a command with its numbers read
 pub data CommandWords : Type 0 where
   make : MakeWords → CommandWords
@@ -137,6 +142,7 @@ pub data CommandWords : Type 0 where
   cell : CellWords → CommandWords
   split : SplitWords → CommandWords
   join : JoinWords → CommandWords
+  asm : AsmWords → CommandWords
 
 -- make with its numbers, where each is one
 abbrev pub make_words : ℕ → List ℕ → List ℕ → List ℕ → Option ℕ → Option ℕ → Option ℕ → Option CommandWords
@@ -219,6 +225,10 @@ abbrev pub join_command : List (List ℕ) → Option CommandWords
 join_command (elf ∷ input ∷ name ∷ parts ∷ []) = join_words elf input name (number 1 PARTS_LIMIT parts)
 join_command _ = None
 
+abbrev pub asm_command : List (List ℕ) → Option CommandWords
+asm_command (source ∷ target ∷ []) = Some (asm (record { source = source; target = target }))
+asm_command _ = None
+
 -- the command that the words spell, if they spell one
 abbrev pub command : List (List ℕ) → Option CommandWords
 command [] = None
@@ -235,7 +245,8 @@ command (name ∷ arguments) =
     else (if bytes_eq name (codes "cell") then cell_command arguments
     else (if bytes_eq name (codes "split") then split_command arguments
     else (if bytes_eq name (codes "join") then join_command arguments
-    else None)))))))))))
+    else (if bytes_eq name (codes "asm") then asm_command arguments
+    else None))))))))))))
 
 -- a command that is given more than one worker
 abbrev pub is_teamwork : Option CommandWords → Bool

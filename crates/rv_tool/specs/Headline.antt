@@ -1,15 +1,19 @@
 -- What success of a command says of the files, in the words of the book of what has to be believed. The contents are those that the command read: where the files are told, the told ones.
-use Rattle.std.specs.Prelude.{◌≡◌, ◌⊎◌, ℕ, ◌<◌, ◌≤◌, List, [], ◌∷◌, length, Option, Some, None, ⊤, ◌+◌, ◌++◌, drop}
+use Rattle.std.specs.Prelude.{◌≡◌, ◌⊎◌, ℕ, ◌<◌, ◌≤◌, List, [], ◌∷◌, length, Option, Some, None, Ok, ⊤, ◌+◌, ◌++◌, drop}
 use Rattle.std.specs.Int.{div_ceil}
 use Rattle.rv_base.specs.declared.limits.TheConstants.{RECORD_LIMIT}
 use Rattle.rv_base.specs.declared.record.End.{End}
 use Rattle.rv_base.specs.declared.record.Verdict.TheVariants.{Accept}
 use Rattle.rv_spec.specs.Digest.{sha_lanes}
+use Rattle.rv_spec.specs.Elf.{first_fault, image}
 use Rattle.rv_spec.specs.Grammar.{Spells}
 use Rattle.rv_spec.specs.Record.{Parts, record_file}
 use Rattle.rv_spec.specs.Run.{run as state_of}
 use Rattle.rv_spec.specs.Conclusion.{HasRecord, IsRecord, IsCollision}
 use Rattle.rv_rules.specs.Verdict.{judge, verdict}
+use Rattle.rv_asm.specs.Assembly.{assembly}
+use Rattle.rv_asm.specs.Executable.{executable}
+use Rattle.rv_asm.specs.Laws.{HoldsStatements, statements_of}
 use Rattle.rv_host.specs.Files.{Files}
 use Rattle.rv_host.specs.Views.{ShelfView}
 use Rattle.rv_parts.specs.declared.heads.TheConstants.{PART_HEAD_BYTES}
@@ -19,7 +23,7 @@ use Rattle.rv_query.specs.OfRun.{cell_of_run}
 use Rattle.rv_query.specs.Questions.{image_of, snapshot}
 use Rattle.rv_trial.specs.Trials.{trial as trial_told, Accepted as IsAccepted}
 use Rattle.rv_trial.specs.declared.summary.Trial.{Trial}
-use Rattle.rv_tool.specs.CommandLine.{MakeWords, CheckWords, SettleWords, TrialWords, StateWords, CellWords, CommandWords, make, check, settle, run, explain, trial, state, cell, SplitWords, JoinWords, split, join}
+use Rattle.rv_tool.specs.CommandLine.{MakeWords, CheckWords, SettleWords, TrialWords, StateWords, CellWords, CommandWords, make, check, settle, run, explain, trial, state, cell, SplitWords, JoinWords, AsmWords, split, join, asm}
 use Rattle.rv_tool.specs.Lines.{state_lines, cell_line}
 use Rattle.rv_tool.specs.Outcome.{asked, cell_text, state_text, tells}
 use Rattle.rv_tool.specs.Parts.{part_name, parts_due}
@@ -132,6 +136,23 @@ pub record JoinedParts (files : Option Files) (w : JoinWords) : Type 0 where
   pub parts_are : AreParts files w.name front 0 bodies
   pub sound : IsRecordOfRun elf input (whole front bodies) ⊎ IsCollision sha_lanes elf (whole front bodies)
 
+-- A file is the executable of a source's words: an ELF file without a fault, whose image has the word of each statement at the statement's address. But for `.word`, that word decodes to the instruction that the statement spells.
+pub record IsExecutableOf (source file : List ℕ) : Type 0 where
+  pub words : List ℕ
+  pub words_are : assembly source ≡ Ok words
+  pub count : length words ≡ length (statements_of source)
+  pub is : file ≡ executable words
+  pub faultless : first_fault file ≡ None
+  pub statements : HoldsStatements source (image 1 file)
+
+-- the executable of the source alone is written
+pub record Assembled (before after : ShelfView) (w : AsmWords) : Type 0 where
+  pub source : List ℕ
+  pub file : List ℕ
+  pub source_is : IsContents before.files w.source source
+  pub file_is : IsExecutableOf source file
+  pub written : IsWritten ((w.target, file) ∷ []) before after
+
 -- The headline, of each command that succeeds.
 abbrev pub Headline : Option CommandWords → ShelfView → ShelfView → Type 0
 Headline (Some (make w)) before after = Made before after w
@@ -144,4 +165,5 @@ Headline (Some (state w)) before after = StateTold before.files w
 Headline (Some (cell w)) before after = CellTold before.files w
 Headline (Some (split w)) before after = Cut before after w
 Headline (Some (join w)) before after = JoinedParts before.files w
+Headline (Some (asm w)) before after = Assembled before after w
 Headline None before after = ⊥

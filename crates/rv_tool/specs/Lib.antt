@@ -7,6 +7,7 @@ pub mod Outcome
 pub mod Headline
 pub mod Judging
 pub mod Asking
+pub mod Assembling
 pub mod Splitting
 pub mod Joining
 pub mod Making

@@ -84,3 +84,7 @@ cell_line name seen = line (codes "cell " ++ name ++ codes " value=" ++ hex8 see
 -- the parts of a record, and their bytes in all
 abbrev pub split_line : ℕ → ℕ → List ℕ
 split_line parts bytes = line (codes "split" ++ field (codes "parts") parts ++ field (codes "bytes") bytes)
+
+-- the words of a source, and the bytes of their executable
+abbrev pub assembled_line : ℕ → ℕ → List ℕ
+assembled_line words bytes = line (codes "assembled" ++ field (codes "words") words ++ field (codes "bytes") bytes)

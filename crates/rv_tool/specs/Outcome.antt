@@ -1,5 +1,5 @@
 -- What the commands read, write and answer (this project's own).
-use Rattle.std.specs.Prelude.{ℕ, Bool, List, [], ◌∷◌, length, Option, Some, None, option_map, Result, Ok, Err, nat_lt, if◌then◌else◌, zero, suc, ◌+◌, ◌-◌, true}
+use Rattle.std.specs.Prelude.{ℕ, Bool, List, [], ◌∷◌, ◌++◌, length, Option, Some, None, option_map, Result, Ok, Err, nat_lt, if◌then◌else◌, zero, suc, ◌+◌, ◌-◌, true}
 use Rattle.std.specs.Int.{div_ceil}
 use Rattle.rv_base.specs.declared.limits.TheConstants.{RECORD_LIMIT, SHARDS_LIMIT}
 use Rattle.rv_base.specs.declared.record.End.{End}
@@ -16,6 +16,13 @@ use Rattle.rv_spec.specs.Record.{Parts, reads, writes, record_file}
 use Rattle.rv_rules.specs.Checks.{unless_broken}
 use Rattle.rv_rules.specs.Reading.{header_checks, header_of}
 use Rattle.rv_rules.specs.Verdict.{judge, parse, verdict}
+use Rattle.rv_asm.specs.Assembly.{assembly, symbols_of}
+use Rattle.rv_asm.specs.Executable.{executable}
+use Rattle.rv_asm.specs.Listing.{listing as assembly_listing}
+use Rattle.rv_asm.specs.Symbols.{Symbol}
+use Rattle.rv_asm.specs.declared.faults.AsmFault.{AsmFault}
+use Rattle.rv_asm.specs.declared.faults.AsmFault.TheVariants.{At, NoMemory}
+use Rattle.rv_asm.specs.declared.limits.TheConstants.{SOURCE_LIMIT}
 use Rattle.rv_query.specs.Questions.{cell_answer, state_answer}
 use Rattle.rv_text.specs.Listing.{listing}
 use Rattle.rv_trial.specs.Trials.{ends_within, budget, trial as trial_told}
@@ -23,9 +30,9 @@ use Rattle.rv_trial.specs.declared.summary.Trial.{Trial}
 use Rattle.rv_host.specs.Files.{Files}
 use Rattle.rv_plan.specs.Plan.{Outcome, Plan, read, answer, refuses, read_within, read_program, outcome_over}
 use Rattle.rv_plan.specs.declared.faults.Limited.TheVariants as limited
-use Rattle.rv_plan.specs.declared.faults.Fault.TheVariants.{Words, Budget, Limit, Step, Part}
-use Rattle.rv_tool.specs.CommandLine.{MakeWords, CheckWords, SettleWords, RunWords, ExplainWords, TrialWords, StateWords, CellWords, CommandWords, make, check, settle, run, explain, trial, state, cell, command, SplitWords, JoinWords, split, join}
-use Rattle.rv_tool.specs.Lines.{made_line, ran_line, accepted_line, refused_line, settled_line, collision_line, trial_line, state_lines, cell_line, split_line}
+use Rattle.rv_plan.specs.declared.faults.Fault.TheVariants.{Words, Budget, Limit, Step, Part, Memory, Assembly}
+use Rattle.rv_tool.specs.CommandLine.{MakeWords, CheckWords, SettleWords, RunWords, ExplainWords, TrialWords, StateWords, CellWords, CommandWords, make, check, settle, run, explain, trial, state, cell, command, SplitWords, JoinWords, AsmWords, split, join, asm}
+use Rattle.rv_tool.specs.Lines.{made_line, ran_line, accepted_line, refused_line, settled_line, collision_line, trial_line, state_lines, cell_line, split_line, assembled_line}
 use Rattle.rv_plan.specs.declared.faults.PartFault.{PartFault}
 use Rattle.rv_tool.specs.Parts.{Joined, added, added_behind, begun, bytes_due, opened, part_name, parts_due, whole_of}
 use Rattle.rv_tool.specs.Differing.{least_differing}
@@ -143,6 +150,16 @@ behind_first w elf input file =
 abbrev pub all_parts : JoinWords → List ℕ → List ℕ → Plan
 all_parts w elf input = read_within (part_name w.name 0) RECORD_LIMIT limited.Record (behind_first w elf input)
 
+-- ---- sources
+
+-- asm writes the executable of a source without a fault, and tells its labels and words
+abbrev pub assembled : AsmWords → List Symbol → Result (List ℕ) AsmFault → Outcome
+assembled w symbols (Err (At n kind)) = refuses (Assembly n kind)
+assembled w symbols (Err NoMemory) = refuses Memory
+assembled w symbols (Ok words) =
+    let file = executable words in
+    record { status = 0; text = assembly_listing symbols words ++ assembled_line (length words) (length file); writes = (w.target, file) ∷ [] }
+
 -- ---- all commands
 
 abbrev pub make_plan : MakeWords → List ℕ → List ℕ → Plan
@@ -175,6 +192,9 @@ question_plan name text elf input = read_within name RECORD_LIMIT limited.Record
 abbrev pub split_plan : SplitWords → Plan
 split_plan w = read_within w.file RECORD_LIMIT limited.Record (λ file. answer (cut w (parse file)))
 
+abbrev pub asm_plan : AsmWords → Plan
+asm_plan w = read_within w.source SOURCE_LIMIT limited.Source (λ source. answer (assembled w (symbols_of source) (assembly source)))
+
 abbrev pub plan_of : CommandWords → Plan
 plan_of (make w) = read_program w.elf w.input (make_plan w)
 plan_of (check w) = read_program w.elf w.input (check_plan w)
@@ -186,6 +206,7 @@ plan_of (state w) = read_program w.elf w.input (question_plan w.file (state_text
 plan_of (cell w) = read_program w.elf w.input (question_plan w.file (cell_text w))
 plan_of (split w) = split_plan w
 plan_of (join w) = read_program w.elf w.input (all_parts w)
+plan_of (asm w) = asm_plan w
 
 -- the plan of what the words spell
 abbrev pub plan : Option CommandWords → Plan

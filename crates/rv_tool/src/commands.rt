@@ -3,7 +3,7 @@
 ghost use Rattle.std.specs.Prelude.{map, string_bytes, IfSome};
 ghost use Rattle.std.specs.Int.{IsInRange};
 ghost use Rattle.rv_tool.specs.Commands.{HasRanges, IsCommand};
-ghost use Rattle.rv_tool.specs.CommandLine.{cell_command, check_command, command, explain_command, join_command, make_command, run_command, settle_command, split_command, state_command, trial_command};
+ghost use Rattle.rv_tool.specs.CommandLine.{asm_command, cell_command, check_command, command, explain_command, join_command, make_command, run_command, settle_command, split_command, state_command, trial_command};
 
 use crate::numbers::number;
 use crate::spelled_cells::cell;
@@ -23,6 +23,7 @@ pub enum Command<'a> {
     Cell(Cell<'a>),
     Split(Split<'a>),
     Join(Join<'a>),
+    Asm(Asm<'a>),
 }
 
 /// `make ELF INPUT RECORD WORKERS SHARD BUDGET`: writes the record of a run. `make2` does so for version 2.
@@ -147,6 +148,13 @@ pub struct Join<'a> {
     pub parts: u32,
 }
 
+/// `asm SOURCE ELF`: assembles a source into an executable of RV32IM.
+#[derive(Clone, Copy, Debug)]
+pub struct Asm<'a> {
+    pub source: &'a str,
+    pub elf: &'a str,
+}
+
 /// The command that the words spell. None where they are no command, or a number is misspelled or out of its range.
 pub fn parse(words: &[String]) -> Option<Command<'_>>
     ensures command { IsCommand (command (map string_bytes words.now)) result }
@@ -168,6 +176,7 @@ pub fn parse(words: &[String]) -> Option<Command<'_>>
         "cell" => parse_cell(arguments),
         "split" => parse_split(arguments),
         "join" => parse_join(arguments),
+        "asm" => parse_asm(arguments),
         _ => None,
     }
 }
@@ -336,5 +345,18 @@ fn parse_join(arguments: &[String]) -> Option<Command<'_>>
         input: input.as_str(),
         name: name.as_str(),
         parts,
+    }))
+}
+
+fn parse_asm(arguments: &[String]) -> Option<Command<'_>>
+    ensures command { IsCommand (asm_command (map string_bytes arguments.now)) result }
+    ensures ranges { IfSome result HasRanges }
+{
+    let [source, elf] = arguments else {
+        return None;
+    };
+    Some(Command::Asm(Asm {
+        source: source.as_str(),
+        elf: elf.as_str(),
     }))
 }

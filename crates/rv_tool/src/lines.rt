@@ -155,6 +155,21 @@ pub fn split_line(alloc: Global, parts: u32, bytes: u64) -> Result<Text, NoMemor
     }
 }
 
+/// A text with the line of a source of so many words behind it, whose executable has so many bytes.
+pub fn assembled_lines(
+    alloc: Global,
+    listing: &str,
+    words: usize,
+    bytes: usize,
+) -> Result<Text, NoMemory>
+    ensures { IfOk result (λ text. text ≡ listing.now ++ lines.assembled_line words bytes) }
+{
+    match format!(in alloc; "{listing}assembled words={words} bytes={bytes}\n") {
+        Ok(text) => Ok(Text::of(text)),
+        Err(_) => Err(NoMemory),
+    }
+}
+
 /// The name of a rule of the verdict, as the line of a refusal prints it. A number of no rule has none.
 fn rule_name(rule: u8) -> &'static str
     ensures { result.now ≡ name_at rule_names rule }

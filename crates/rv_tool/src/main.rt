@@ -3,6 +3,7 @@
 
 mod answer_lines;
 mod asking;
+mod asm;
 mod check;
 mod commands;
 mod explain;

@@ -1,6 +1,7 @@
 //! Command lines over files in memory: statuses, lines, and what the files hold afterwards.
 
 mod asking;
+mod assembling;
 mod check_of_made;
 mod checking;
 mod failing;
@@ -123,6 +124,8 @@ fn words_that_are_no_command(rt: HostRuntime) -> Result<(), Fail> {
         "trial 7 41",
         "trial 7 84001",
         "trial 4294967296 42",
+        "asm source",
+        "asm source target 1",
     ];
     for line in lines {
         expect(&rt, line, &mut shelf, 2, "fault words\n")?;

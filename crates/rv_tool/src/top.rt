@@ -10,6 +10,7 @@ ghost use Rattle.rv_tool.specs.Outcome.{plan, plan_of};
 ghost use Rattle.rv_tool.specs.Trials.{TrialEnds};
 
 use crate::asking::{cell, state};
+use crate::asm::asm;
 use crate::check::{check, check_by_team};
 use crate::commands::{Command, parse};
 use crate::explain::explain;
@@ -40,7 +41,8 @@ pub fn needs_team(words: &[String]) -> bool
             | Command::State(_)
             | Command::Cell(_)
             | Command::Split(_)
-            | Command::Join(_),
+            | Command::Join(_)
+            | Command::Asm(_),
         )
         | None => false,
     }
@@ -59,6 +61,7 @@ pub fn needs_team(words: &[String]) -> bool
 /// - 8: a file, or what a run needs, is above its limit, or there are more parts than shards
 /// - 11: a part of a record has a fault
 /// - 12: the record has no such step
+/// - 13: a source of the assembler has a fault
 ///
 /// The words are those after the program's own name.
 pub fn tool<R: Threads + Wait + Sync, S: Shelf, K: Sink, G: Gate>(
@@ -120,6 +123,7 @@ fn perform_by_team<R: Threads + Wait + Sync, S: Shelf, G: Gate>(
         Command::Cell(words) => cell(alloc, words, shelf),
         Command::Split(words) => split(alloc, words, shelf),
         Command::Join(words) => join(alloc, words, shelf),
+        Command::Asm(words) => asm(alloc, words, shelf),
     }
 }
 
@@ -141,5 +145,6 @@ fn perform_alone<S: Shelf>(alloc: Global, asked: &Command<'_>, shelf: &mut S) ->
         Command::Cell(words) => cell(alloc, words, shelf),
         Command::Split(words) => split(alloc, words, shelf),
         Command::Join(words) => join(alloc, words, shelf),
+        Command::Asm(words) => asm(alloc, words, shelf),
     }
 }

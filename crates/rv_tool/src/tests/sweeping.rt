@@ -1,5 +1,6 @@
 //! For each command, each call of the files and of the output, put out of order in turn until none fails.
 
+use super::assembling::{ASSEMBLED, SOURCE};
 use super::listing::FIRST;
 use super::programs::{PROGRAM, RECORD, of_code, spelled};
 use super::questions::STATE;
@@ -21,6 +22,7 @@ enum Written {
     /// The same of version 2.
     Record2,
     Greeting,
+    Program,
 }
 
 /// A command line, how many files it reads, and what it answers and prints where no call fails.
@@ -30,7 +32,7 @@ pub type Case = (&'static str, u64, u8, &'static str);
 const ACCEPTED: &str = "accepted steps=3 shards=1 end=0 code=42\n";
 
 /// Each command, and refusals at each place of their order.
-const CASES: [(Case, Written); 14] = [
+const CASES: [(Case, Written); 16] = [
     (("make elf input target 1 3 3", 2, 0, MADE), Written::Record),
     (("make elf input target 2 3 3", 2, 0, MADE), Written::Record),
     (
@@ -64,6 +66,11 @@ const CASES: [(Case, Written); 14] = [
         Written::Nothing,
     ),
     (("explain record 0 1", 1, 0, FIRST), Written::Nothing),
+    (("asm source target", 1, 0, ASSEMBLED), Written::Program),
+    (
+        ("asm elf target", 1, 13, "fault asm 1 1 Bytes\n"),
+        Written::Nothing,
+    ),
     (
         (
             "settle elf2 input record",
@@ -289,8 +296,11 @@ fn each_call_of_each_command_fails_in_turn(rt: HostRuntime) -> Result<(), Fail> 
     record2[7] = b'2';
     let mut elf = Vec::new(rt.alloc());
     elf.extend_from_slice(&PROGRAM)?;
+    let mut source = Vec::new(rt.alloc());
+    source.extend_from_slice(SOURCE.as_bytes())?;
     let mut files = Vec::new(rt.alloc());
     files.push(("elf", elf))?;
+    files.push(("source", source))?;
     files.push(("input", Vec::new(rt.alloc())))?;
     files.push(("record", spelled(&rt, &RECORD)?))?;
     files.push(("elf2", of_code(&rt, &RESERVING_GREETING)?))?;
@@ -303,6 +313,7 @@ fn each_call_of_each_command_fails_in_turn(rt: HostRuntime) -> Result<(), Fail> 
             Written::Record => record.as_slice(),
             Written::Record2 => record2.as_slice(),
             Written::Greeting => b"hi\n".as_slice(),
+            Written::Program => PROGRAM.as_slice(),
         };
         fails_in_turn(&rt, &files, case, &[("target", bytes)])?;
     }
