@@ -1,12 +1,9 @@
--- The laws of upgraded files.
+-- The law of upgraded files.
 use Rattle.std.specs.Prelude.{◌≡◌, ℕ, List, Ok, None}
-use Rattle.rv_base.specs.declared.record.End.{End}
 use Rattle.rv_spec.specs.Words.{AreBytes}
 use Rattle.rv_spec.specs.Elf.{image}
 use Rattle.rv_spec.specs.Digest.{Lanes}
 use Rattle.rv_spec.specs.Record.{Parts, reads, writes}
-use Rattle.rv_spec.specs.Grammar.{Spells}
-use Rattle.rv_spec.specs.Conclusion.{IsRecord}
 use Rattle.rv_rules.specs.Verdict.{judge, verdict}
 use Rattle.rv_upgrade.specs.Upgrade.{blocked, upgraded, upgraded_parts}
 
@@ -22,9 +19,3 @@ abbrev pub UpgradedIsAccepted : Type 0
 UpgradedIsAccepted =
     (lanes : Lanes) (elf input file : List ℕ) (p : Parts) → AreBytes file → judge lanes elf input file ≡ Ok p → blocked p ≡ None
     → IsAcceptedToo lanes elf input file p
-
--- The record of a run of version 1 that nothing blocks is, upgraded, the record of the run of version 2.
-abbrev pub UpgradedIsRecord : Type 0
-UpgradedIsRecord =
-    (lanes : Lanes) (elf input : List ℕ) (size n : ℕ) (e : End) (file : List ℕ) (p : Parts) → AreBytes elf → AreBytes input → AreBytes file
-    → Spells p file → blocked p ≡ None → IsRecord lanes 1 elf input size n e file → IsRecord lanes 2 elf input size n e (upgraded file)

@@ -63,13 +63,15 @@ fn last_word(parsed: &Parsed<'_>) -> u32
     let shard = last_shard(parsed);
     let last = header.shards - 1;
     let rows = rows_of(&header, last);
-    let row = behind_rows(&shard[HEAD_BYTES..], rows - 1);
+    let before = rows - 1;
+    let row = behind_rows(&shard[HEAD_BYTES..], before);
     first_value(row)
 }
 
 /// Why a record file of good form has no upgrade, or None where it has one. It is New where its version is 2. It is Atomic where its version is 1, its end is
 /// that of an illegal word, and the word that its last row shows, the old value of the row's first access, is one of extension A. Goes over the heads of all
 /// shards and the rows of the last; it takes no memory.
+#[tactic(auto, unfolding(rv_upgrade::specs::Upgrade::blocked))]
 pub fn blocked(parsed: &Parsed<'_>) -> Option<Blocked>
     ensures { result ≡ blocked_of parsed.now }
 {
@@ -81,5 +83,6 @@ pub fn blocked(parsed: &Parsed<'_>) -> Option<Blocked>
         return None;
     }
     let word = last_word(parsed);
-    decode_atomic(word).map(|_| Blocked::Atomic { word })
+    decode_atomic(word)?;
+    Some(Blocked::Atomic { word })
 }
