@@ -37,15 +37,15 @@ some-shard p fit = elim (cases_lt 0 p.header.shards) [
 ]
 
 -- the bytes behind a row
-pub row-behind : (k n : ℕ) (rs : List Row) (tail rest : List ℕ) (row : Row) → AllByRecursion RowFits rs → k < length rs → rest ≡ flat_map row_bytes (drop k rs) ++ tail
-    → ((x : Row) (more : List ℕ) → RowFits x → rest ≡ row_bytes x ++ more → (row ≡ x) × (n ≡ row_length x))
+pub row-behind : (k n : ℕ) (rs : List Row) (tail rest : List ℕ) → AllByRecursion RowFits rs → k < length rs → rest ≡ flat_map row_bytes (drop k rs) ++ tail
+    → ((x : Row) (more : List ℕ) → RowFits x → rest ≡ row_bytes x ++ more → n ≡ row_length x)
     → drop n rest ≡ flat_map row_bytes (drop (k + 1) rs) ++ tail
-row-behind k n rs tail rest row fit lt is only =
+row-behind k n rs tail rest fit lt is only =
     let at = at-place RowFits rs k lt fit in
     let x : Row = at.0 in
     let more : List ℕ = flat_map row_bytes at.1 ++ tail in
     let begins : rest ≡ row_bytes x ++ more = is ∙ ap (λ l. flat_map row_bytes l ++ tail) at.2.from ∙ append_assoc (row_bytes x) (flat_map row_bytes at.1) tail in
-    ap (λ (l : List ℕ). drop n l) begins ∙ drop_at (row_bytes x) more n (length-row_bytes x ∙ sym (only x more at.2.holds begins).1) ∙ ap (λ l. flat_map row_bytes l ++ tail) (sym at.2.behind)
+    ap (λ (l : List ℕ). drop n l) begins ∙ drop_at (row_bytes x) more n (length-row_bytes x ∙ sym (only x more at.2.holds begins)) ∙ ap (λ l. flat_map row_bytes l ++ tail) (sym at.2.behind)
 
 -- behind all shards but the last stands the last
 pub begin-with-last : (p : Parts) (bytes : List ℕ) → PartsFit p → bytes ≡ flat_map shard_bytes (drop (p.header.shards - 1) p.shards) ++ table_bytes p.table → BeginWithLast p bytes

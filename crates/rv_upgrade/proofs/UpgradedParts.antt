@@ -13,7 +13,7 @@ use Rattle.rv_spec.specs.Elf.{image}
 use Rattle.rv_spec.specs.Cells.{value, is_cell}
 use Rattle.rv_spec.specs.Decode.{decode_atomic}
 use Rattle.rv_spec.specs.Trace.{Row}
-use Rattle.rv_spec.specs.Digest.{Lanes}
+use Rattle.rv_spec.specs.Digest.{Lanes, digest}
 use Rattle.rv_spec.specs.Record.{Parts, header_bytes, file_bytes, all_rows, reads, writes}
 use Rattle.rv_spec.specs.Grammar.{HeaderFits, EntryFits, PartsFit, Spells}
 use Rattle.rv_rules.specs.Verdict.{judge, verdict_of}
@@ -67,7 +67,7 @@ cell-too version c first t = go (nat_lt c REGISTER_CELLS) (nat_lt REGISTER_CELLS
     go : (a b d : Bool) → IsTrue (a || b || false) → IsTrue (a || b || d)
     go true b d t = t
     go false true d t = t
-    go false false d t = absurd t
+    go false false d t = absurd cc
 
 entries-fit-too : (version : ℕ) (ts : List TableEntry) → version ≡ 1 → AllByRecursion (EntryFits version) ts → AllByRecursion (EntryFits 2) ts
 entries-fit-too version [] first fits = tt
@@ -135,7 +135,7 @@ module _ (lanes : Lanes) (elf input : List ℕ) (p : Parts) (free : blocked p �
         shards = both.0;
         taken = ap (λ (q : Place). q.input) both.1 ∙ a.taken;
         put = ap (λ (q : Place). q.output) both.1 ∙ a.put;
-        balance = a.balance;
+        balance = ap (digest lanes) (same-read p) ∙ a.balance ∙ sym (ap (digest lanes) (same-written elf p.header.version p));
       }
 
   pub is-accepted-too : (file : List ℕ) → ReadsAccepted lanes elf input → AreBytes file → judge lanes elf input file ≡ Ok p → IsAcceptedToo lanes elf input file p

@@ -71,7 +71,7 @@ fn last_word(parsed: &Parsed<'_>) -> u32
 /// Why a record file of good form has no upgrade, or None where it has one. It is New where its version is 2. It is Atomic where its version is 1, its end is
 /// that of an illegal word, and the word that its last row shows, the old value of the row's first access, is one of extension A. Goes over the heads of all
 /// shards and the rows of the last; it takes no memory.
-#[tactic(auto, unfolding(rv_upgrade::specs::Upgrade::blocked))]
+#[tactic(auto, unfolding(crate::specs::Upgrade::blocked))]
 pub fn blocked(parsed: &Parsed<'_>) -> Option<Blocked>
     ensures { result ≡ blocked_of parsed.now }
 {

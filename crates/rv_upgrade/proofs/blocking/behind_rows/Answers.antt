@@ -1,7 +1,6 @@
 use Rattle.std.proofs.Common.{ap, ◌+◌, ◌++◌, ◌≡◌, ◌∙◌, drop, arith}
 use Rattle.std.specs.List.{flat_map}
 use Rattle.rv_spec.specs.Record.{row_bytes, row_length}
-use Rattle.rv_row.specs.RowReading.{row_view}
 use Rattle.rv_text.proofs.Lemmas.{take-rest, not-row, row-there}
 use Rattle.rv_upgrade.proofs.LastRow.{row-behind}
 use Rattle.rv_upgrade.proofs.blocking.behind_rows.Goals as goal
@@ -18,8 +17,8 @@ returns-in_default c rs tail fit most is =
 pub loop-preserved : goal.loop-preserved
 loop-preserved c rs tail fit most is =
     take-rest c.in-Row.length c.loop.rest.now
-    ∙ row-behind c.loop.counter c.in-Row.length rs tail c.loop.rest.now (row_view _) fit (omega (arith, most, c.loop-test.true)) (c.loop.invariant rs tail fit most is)
-    (λ x more fits begins. c.in-Row.ensures.only x more fits begins)
+    ∙ row-behind c.loop.counter c.in-Row.length rs tail c.loop.rest.now fit (omega (arith, most, c.loop-test.true)) (c.loop.invariant rs tail fit most is)
+    (λ x more fits begins. (c.in-Row.ensures.only x more fits begins).1)
 
 pub returns : goal.returns
 returns c rs tail fit most is =

@@ -13,9 +13,6 @@ overflow_sub-last c = let some = c.last_shard-shard.ensures.some in omega (arith
 pub overflow_sub-before : goal.overflow_sub-before
 overflow_sub-before c = let rows = c.last_shard-shard.ensures.rows in omega (arith, rows, c.rows_of-rows.ensures, ap (λ (h : Header). shard_rows h.size h.steps (h.shards - 1)) c.header-header.ensures)
 
-pub slice_bounds-shard : goal.slice_bounds-shard
-slice_bounds-shard c = let head = c.last_shard-shard.ensures.head in omega (arith, head)
-
 pub returns : goal.returns
 returns c =
     let p = c.args.parsed.now in
