@@ -1,6 +1,6 @@
 -- Rows that break no rule in version 1 break none in version 2, unless the last of them shows a word of extension A where the run ends as at an illegal word.
-use Rattle.std.proofs.Common.{◌≡◌, ℕ, ◌+◌, ◌-◌, ◌*◌, ◌/◌, ◌≤◌, Bool, true, false, cond, ◌&&◌, ◌||◌, ◌==◌, List, [], ◌∷◌, ◌++◌, length, drop, map, find, Option, Some, None, is_none, is_some, option_map, unwrap_or, slice_get, bytes_eq, nat_lt, nat_eq, IsTrue, refl, sym, ap, subst, ◌∙◌, append_assoc, length-append, arith}
-use Rattle.std.specs.List.{flat_map, AllByRecursion, list_all, starts_with}
+use Rattle.std.proofs.Common.{◌≡◌, ℕ, ◌+◌, ◌-◌, ◌*◌, ◌/◌, ◌≤◌, Bool, true, false, cond, ◌||◌, ◌==◌, List, [], ◌∷◌, ◌++◌, length, drop, map, find, Option, Some, None, is_none, is_some, option_map, unwrap_or, slice_get, bytes_eq, nat_lt, nat_eq, refl, sym, ap, subst, ◌∙◌, append_assoc, length-append, arith}
+use Rattle.std.specs.List.{list_all, starts_with}
 use Rattle.std.specs.Option.{option_or}
 use Rattle.std.proofs.lemmas.Bool.{eqb-true}
 use Rattle.std.proofs.lemmas.Slice.Eq.{bytes_eq-Decides}
@@ -9,7 +9,6 @@ use Rattle.rv_base.specs.declared.machine.TheConstants.{ILLEGAL_WORD}
 use Rattle.rv_base.specs.declared.rules.TheConstants.{PC, SLOT, CELL, VALUE, TIME_ORDER, NEXT, OUTPUT_BYTE, ENDS_EARLY, END_OTHER}
 use Rattle.rv_base.specs.declared.instr.Instr.{Instr}
 use Rattle.rv_base.specs.declared.record.Access.{Access}
-use Rattle.rv_base.specs.declared.record.End.{End}
 use Rattle.rv_base.specs.declared.record.Header.{Header}
 use Rattle.rv_base.specs.declared.record.Place.{Place}
 use Rattle.rv_spec.specs.Cells.{time_of}
@@ -23,7 +22,7 @@ use Rattle.rv_rules.specs.Expected.{Expected, expected, expected_any, touch}
 use Rattle.rv_rules.specs.Reading.{last_of}
 use Rattle.rv_rules.specs.RowRules.{old_in, seen, ends_as, due, row_checks, row_rule, place_after}
 use Rattle.rv_rules.proofs.Lemmas.{left-true}
-use Rattle.rv_sound.specs.Accepted.{place_through, RowsHold, ShardHolds, ShardsHold}
+use Rattle.rv_sound.specs.Accepted.{place_through, RowsHold, ShardsHold}
 use Rattle.rv_text.proofs.Lemmas.{rows_in}
 use Rattle.rv_upgrade.specs.Upgrade.{first_old}
 

@@ -8,7 +8,7 @@ use Rattle.rv_spec.specs.Trace.{Row}
 use Rattle.rv_spec.specs.Record.{Shard, Parts, all_rows, row_bytes, row_length, table_bytes, shard_bytes}
 use Rattle.rv_spec.specs.Grammar.{RowFits, PartsFit}
 use Rattle.rv_row.proofs.Lemmas.{length-row_bytes}
-use Rattle.rv_text.proofs.Lemmas.{rows_in, sized, BeginsWith, next-shard, behind, digests, at-place}
+use Rattle.rv_text.proofs.Lemmas.{rows_in, sized, next-shard, behind, digests, at-place}
 use Rattle.rv_upgrade.specs.Upgrade.{first_old, last_word}
 use Rattle.rv_upgrade.specs.LastShard.{BeginWithLast}
 

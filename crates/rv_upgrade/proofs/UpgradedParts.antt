@@ -1,5 +1,5 @@
 -- The parts of an accepted file that nothing blocks are accepted with version 2.
-use Rattle.std.proofs.Common.{◌≡◌, ℕ, ◌+◌, ◌≤◌, Bool, true, false, cond, ◌&&◌, ◌||◌, ◌==◌, List, [], ◌∷◌, ◌++◌, Option, Some, None, Ok, is_some, IsTrue, nat_lt, refl, sym, ap, subst, ◌∙◌, inl, inr, arith}
+use Rattle.std.proofs.Common.{◌≡◌, ℕ, Bool, true, false, cond, ◌&&◌, ◌||◌, ◌==◌, List, [], ◌∷◌, Option, Some, None, Ok, is_some, IsTrue, nat_lt, refl, sym, ap, subst, ◌∙◌, inl, inr, arith}
 use Rattle.std.specs.List.{AllByRecursion}
 use Rattle.std.proofs.lemmas.Bool.{cases_lt}
 use Rattle.rv_base.specs.declared.cells.TheConstants.{REGISTER_CELLS, RESERVATION_CELL}
@@ -12,13 +12,12 @@ use Rattle.rv_spec.specs.Words.{AreBytes}
 use Rattle.rv_spec.specs.Elf.{image}
 use Rattle.rv_spec.specs.Cells.{value, is_cell}
 use Rattle.rv_spec.specs.Decode.{decode_atomic}
-use Rattle.rv_spec.specs.Trace.{Row}
 use Rattle.rv_spec.specs.Digest.{Lanes, digest}
-use Rattle.rv_spec.specs.Record.{Parts, header_bytes, file_bytes, all_rows, reads, writes}
+use Rattle.rv_spec.specs.Record.{Parts, header_bytes, file_bytes, reads, writes}
 use Rattle.rv_spec.specs.Grammar.{HeaderFits, EntryFits, PartsFit, Spells}
 use Rattle.rv_rules.specs.Verdict.{judge, verdict_of}
-use Rattle.rv_sound.specs.Accepted.{place_through, entry_place, IsAccepted, ReadsAccepted}
-use Rattle.rv_upgrade.specs.Upgrade.{first_old, last_word, blocked, upgraded, upgraded_parts}
+use Rattle.rv_sound.specs.Accepted.{entry_place, IsAccepted, ReadsAccepted}
+use Rattle.rv_upgrade.specs.Upgrade.{last_word, blocked, upgraded, upgraded_parts}
 use Rattle.rv_upgrade.specs.Laws.{IsAcceptedToo}
 use Rattle.rv_upgrade.specs.declared.reasons.Blocked.TheVariants as why
 use Rattle.rv_upgrade.proofs.LastRow.{last-word}

@@ -1,4 +1,4 @@
-use Rattle.std.proofs.Common.{ap, ◌+◌, ◌++◌, ◌≡◌, ◌∙◌, drop, arith}
+use Rattle.std.proofs.Common.{ap, ◌++◌, ◌≡◌, ◌∙◌, drop, arith}
 use Rattle.std.specs.List.{flat_map}
 use Rattle.rv_spec.specs.Record.{row_bytes, row_length}
 use Rattle.rv_text.proofs.Lemmas.{take-rest, not-row, row-there}
