@@ -1,0 +1,3 @@
+mod LastRow
+mod BothVersions
+mod UpgradedParts
