@@ -1,5 +1,5 @@
 -- The pipe (this project's own): the walk pushes the index of each start into a queue, and workers take them.
-use Rattle.std.specs.Prelude.{◌≡◌, ℕ, zero, suc, ◌+◌, Bool, false, ◌&&◌, List, [], ◌∷◌, ◌++◌, length, replicate, IsTrue, nat_lt}
+use Rattle.std.specs.Prelude.{◌≡◌, ℕ, zero, suc, ◌+◌, Bool, ◌&&◌, List, [], ◌∷◌, ◌++◌, length, replicate, IsTrue, nat_lt}
 use Rattle.rv_pipe.specs.declared.event.PipeEvent.{PipeEvent}
 use Rattle.rv_pipe.specs.declared.event.PipeEvent.TheVariants.{Push, Take}
 

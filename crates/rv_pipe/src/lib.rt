@@ -1,4 +1,5 @@
-//! The record of a run whose shards are replayed while the run is still gone through.
+//! The pipe through which the starts of a run's shards go from the walk over the run to the workers that replay
+//! them, as a machine, with its law.
 #![tactic(auto)]
 
 mod event;
