@@ -1,8 +1,10 @@
 //! Files of four steps in two shards, with zeros for the digests: they play no part in a file's form.
 
+ghost use Rattle.std.specs.Prelude.{◌≡◌};
+
 use super::*;
 use rv_base::layout::{
-    ACCESS_BYTES, ACCESS_NEW_AT, ACCESS_OLD_AT, DIGESTS_BYTES, ROW_BYTES, ROW_COUNT_AT,
+    ACCESS_BYTES, ACCESS_NEW_AT, ACCESS_OLD_AT, DIGESTS_BYTES, ROW_BYTES, ROW_COUNT_AT, VERSION_AT,
 };
 use rv_base::{End, Header, ShardHead, set32};
 use rv_file::{parse, table_bytes, write_head, write_header};
@@ -37,9 +39,12 @@ fn head(index: u32) -> [u8; 32] {
     })
 }
 
-fn header(version: u8, kind: u8) -> Header {
+/// The header of a file of version 1 whose run has an end of this kind.
+fn header(kind: u8) -> Header
+    ensures { result.version ≡ 1 }
+{
     Header {
-        version,
+        version: 1,
         elf: [0; 64],
         input: [0; 64],
         size: 2,
@@ -64,9 +69,9 @@ fn shard(
     Ok(())
 }
 
-fn record(alloc: Global, version: u8, kind: u8, values: &Values) -> Result<Vec<u8>, NoMemory> {
+fn record(alloc: Global, kind: u8, values: &Values) -> Result<Vec<u8>, NoMemory> {
     let mut file = Vec::new(alloc);
-    file.extend_from_slice(&write_header(&header(version, kind)))?;
+    file.extend_from_slice(&write_header(&header(kind)))?;
     shard(&mut file, 0, values[0], values[1])?;
     shard(&mut file, 1, values[2], values[3])?;
     file.extend_from_slice(table_bytes(alloc, &[])?.as_slice())?;
@@ -77,26 +82,31 @@ fn record(alloc: Global, version: u8, kind: u8, values: &Values) -> Result<Vec<u
 fn what_blocks_an_upgrade(rt: HostRuntime) -> Result<(), Fail> {
     let lr = LOAD_RESERVED;
     let atomic = Some(Blocked::Atomic { word: lr });
-    for (version, kind, values, wanted) in [
-        (1, 1, [(0, 0), (0, 0), (0, 0), (lr, lr)], atomic),
-        (1, 1, [(0, 0), (0, 0), (0, 0), (lr, 0)], atomic),
-        (1, 1, [(lr, lr), (lr, lr), (lr, lr), (0, lr)], None),
-        (1, 2, [(0, 0), (0, 0), (0, 0), (lr, lr)], None),
-        (2, 1, [(0, 0), (0, 0), (0, 0), (lr, lr)], Some(Blocked::New)),
-        (2, 0, [(0, 0), (0, 0), (0, 0), (0, 0)], Some(Blocked::New)),
+    for (kind, values, wanted) in [
+        (1, [(0, 0), (0, 0), (0, 0), (lr, lr)], atomic),
+        (1, [(0, 0), (0, 0), (0, 0), (lr, 0)], atomic),
+        (1, [(lr, lr), (lr, lr), (lr, lr), (0, lr)], None),
+        (2, [(0, 0), (0, 0), (0, 0), (lr, lr)], None),
+        (0, [(0, 0), (0, 0), (0, 0), (0, 0)], None),
     ] {
-        let file = record(rt.alloc(), version, kind, &values)?;
+        let file = record(rt.alloc(), kind, &values)?;
         assert_eq!(rt; blocked(&parse(&file)?), wanted);
     }
     Ok(())
 }
 
 #[test]
-fn an_upgraded_file_differs_in_one_byte(rt: HostRuntime) -> Result<(), Fail> {
-    let file = record(rt.alloc(), 1, 2, &[(19, 19); 4])?;
-    let new = upgrade(rt.alloc(), &file)?;
-    assert_eq!(rt; &new.list()[..8], b"RV32REC2".as_slice());
-    assert_eq!(rt; &new.list()[8..], &file[8..]);
-    assert_eq!(rt; blocked(&parse(new.list())?), Some(Blocked::New));
+fn an_upgraded_file_is_of_version_2(rt: HostRuntime) -> Result<(), Fail> {
+    let lr = LOAD_RESERVED;
+    for (kind, word) in [(0, 19), (1, lr)] {
+        let file = record(rt.alloc(), kind, &[(word, word); 4])?;
+        if file.len() <= VERSION_AT {
+            return Err("a short file".into());
+        }
+        let new = upgrade(rt.alloc(), &file)?;
+        assert_eq!(rt; new.list().get(..8), Some(b"RV32REC2".as_slice()));
+        assert_eq!(rt; new.list().get(8..), file.get(8..));
+        assert_eq!(rt; blocked(&parse(new.list())?), Some(Blocked::New));
+    }
     Ok(())
 }
