@@ -7,7 +7,7 @@ use rv_base::cells::REGISTER_CELLS;
 use rv_file::{Parsed, parse};
 use rv_isa::Hart;
 use rv_program::Program;
-use rv_query::{cell_at, state_at};
+use rv_query::{CellSeen, cell_at, state_at};
 use std::alloc::Global;
 use std::process::Abort;
 use std::test::Fail;
@@ -134,6 +134,15 @@ fn touched(alloc: Global, program: &Program<'_>, steps: u32) -> Result<Vec<Table
     Ok(hart.touched()?)
 }
 
+/// What a record shows of a word of memory before a step.
+fn word_seen(program: &Program<'_>, parsed: &Parsed<'_>, cell: u32, step: u32) -> Option<CellSeen> {
+    if cell < REGISTER_CELLS {
+        cell_at(program, parsed, cell, u64::from(step))
+    } else {
+        None
+    }
+}
+
 /// Each register before a step, and each word that was used before it, is what the machine has.
 fn expect_as_run<R: Abort + AllocGlobal>(
     rt: &R,
@@ -144,12 +153,13 @@ fn expect_as_run<R: Abort + AllocGlobal>(
     let mut registers = [0; 32];
     registers[2] = 0x7FFF_F000;
     for entry in touched(rt.alloc(), program, step)?.as_slice() {
-        let seen = cell_at(program, parsed, entry.cell, u64::from(step));
-        let seen = seen.map(|seen| (seen.value, seen.time));
-        assert_eq!(rt; seen, Some((entry.value, entry.time)));
         let register = entry.cell.wrapping_sub(REGISTER_CELLS) as usize;
         if register < 32 {
             registers[register] = entry.value;
+        } else {
+            let seen = word_seen(program, parsed, entry.cell, step);
+            let seen = seen.map(|seen| (seen.value, seen.time));
+            assert_eq!(rt; seen, Some((entry.value, entry.time)));
         }
     }
     let state = state_at(program, parsed, u64::from(step));
