@@ -4,6 +4,7 @@ use super::programs::{COUNT, PROGRAM, RECORD, spelled};
 use super::{expect, shelf_with};
 use rv_base::TableEntry;
 use rv_base::cells::REGISTER_CELLS;
+use rv_base::limits::{ELF_LIMIT, INPUT_LIMIT};
 use rv_file::{Parsed, parse};
 use rv_isa::Hart;
 use rv_program::Program;
@@ -125,6 +126,14 @@ fn what_cannot_be_asked(rt: HostRuntime) -> Result<(), Fail> {
     Ok(())
 }
 
+/// A program and its input, which are within their limits.
+fn opened<'a>(elf: &'a [u8], input: &'a [u8]) -> Result<Program<'a>, Fail> {
+    if elf.len() > ELF_LIMIT || input.len() > INPUT_LIMIT {
+        return Err("a file is too long".into());
+    }
+    Ok(Program::open(elf, input)?)
+}
+
 /// The cells that a program uses in its first steps, with their values and times.
 fn touched(alloc: Global, program: &Program<'_>, steps: u32) -> Result<Vec<TableEntry>, Fail> {
     let mut hart = Hart::start(alloc, program.image(), program.input());
@@ -175,7 +184,7 @@ fn a_longer_run_is_asked(rt: HostRuntime) -> Result<(), Fail> {
     shelf.put("input", input)?;
     let made = "made steps=1038 shards=11 end=0 code=0 bytes=81493\n";
     expect(&rt, "make elf input record 1 100 2000", &mut shelf, 0, made)?;
-    let program = Program::open(&elf, input)?;
+    let program = opened(&elf, input)?;
     let parsed = parse(shelf.file("record").ok_or("no record")?)?;
     for step in [1, 100, 519, 1037] {
         expect_as_run(&rt, &program, &parsed, step)?;
