@@ -1,5 +1,5 @@
 -- The promise of a call that tells how a plan ended, from how it ended and what was printed.
-use Rattle.std.proofs.Common.{◌≡◌, ◌≢◌, ◌⊎◌, inl, inr, ℕ, ◌≤◌, List, [], ◌++◌, Bool, true, false, ◌||◌, Option, Some, None, Ok, ◌==◌, nat_lt, refl, sym, ◌∙◌, ap, subst, arith, option_map, length, if◌then◌else◌}
+use Rattle.std.proofs.Common.{◌≡◌, ◌≢◌, ◌⊎◌, inl, inr, ℕ, ◌≤◌, List, [], ◌++◌, Bool, true, false, ◌||◌, Option, Some, None, Ok, ◌==◌, ◌&&◌, slice_index, nat_lt, refl, sym, ◌∙◌, ap, subst, arith, option_map, length, if◌then◌else◌}
 use Rattle.std.proofs.lemmas.Bool.{eqb-false, false≢true}
 use Rattle.rv_base.specs.declared.limits.TheConstants.{ELF_LIMIT, INPUT_LIMIT}
 use Rattle.rv_spec.specs.Elf.{first_fault}
@@ -16,7 +16,8 @@ use Rattle.rv_plan.specs.declared.told.Told.{Told}
 use Rattle.rv_plan.specs.declared.faults.Fault.{Fault}
 use Rattle.rv_plan.specs.declared.faults.Limited.{Limited}
 use Rattle.rv_plan.specs.declared.faults.Limited.TheVariants as limited
-use Rattle.rv_plan.specs.declared.faults.Fault.TheVariants.{Words, Elf, Budget, Read, Write, Memory, Limit, Part, Step, Assembly}
+use Rattle.rv_plan.specs.declared.faults.VersionFault.TheVariants as version
+use Rattle.rv_plan.specs.declared.faults.Fault.TheVariants.{Words, Elf, Budget, Read, Write, Memory, Limit, Version, Part, Step, Assembly}
 
 apart : {m n : ℕ} → (m == n) ≡ false → m ≢ n
 apart {m} {n} e = eqb-false m n e
@@ -34,6 +35,7 @@ refusal-listed Read = at-most-8 _ (omega arith) (λ _. refl)
 refusal-listed Write = at-most-8 _ (omega arith) (λ _. refl)
 refusal-listed Memory = at-most-8 _ (omega arith) (λ _. refl)
 refusal-listed (Limit what) = at-most-8 _ (omega arith) (λ _. refl)
+refusal-listed (Version reason) = record { status = inr (omega arith, omega arith); writes = λ _. refl }
 refusal-listed (Part number fault) = record { status = inr (omega arith, omega arith); writes = λ _. refl }
 refusal-listed (Step steps) = record { status = inr (omega arith, omega arith); writes = λ _. refl }
 refusal-listed (Assembly at kind) = record { status = inr (omega arith, omega arith); writes = λ _. refl }
@@ -136,30 +138,33 @@ stopped p s s' Read h = unread refl refl h.1 h.0
 stopped p s s' Write h = unwritten h.0 h.1 refl refl h.2
 stopped p s s' Memory h = no_memory h.1 refl refl h.0
 stopped p s s' (Limit what) h = refused p s s' (Limit what) h
+stopped p s s' (Version reason) h = refused p s s' (Version reason) h
 stopped p s s' (Part number fault) h = refused p s s' (Part number fault) h
 stopped p s s' (Step steps) h = refused p s s' (Step steps) h
 stopped p s s' (Assembly at kind) h = refused p s s' (Assembly at kind) h
 
--- the statuses of faults with a number
-abbrev is_numbered : ℕ → Bool
-is_numbered n = n == 3 || (n == 4 || (n == 11 || (n == 12 || n == 13)))
+-- the outcomes of faults with a number, by their statuses; of status 10 only those whose line goes on with "atomic"
+abbrev is_numbered : Outcome → Bool
+is_numbered o = o.status == 3 || (o.status == 4 || (o.status == 11 || (o.status == 12 || (o.status == 13 || (o.status == 10 && slice_index o.text 14 == 97)))))
 
-numbered-status : (f : Fault) → is_numbered (status_of f) ≡ has_number f
-numbered-status Words = refl
-numbered-status (Elf e) = refl
-numbered-status (Budget n) = refl
-numbered-status Read = refl
-numbered-status Write = refl
-numbered-status Memory = refl
-numbered-status (Limit what) = refl
-numbered-status (Part number fault) = refl
-numbered-status (Step steps) = refl
-numbered-status (Assembly at kind) = refl
+numbered-outcome : (f : Fault) → is_numbered (refuses f) ≡ has_number f
+numbered-outcome Words = refl
+numbered-outcome (Elf e) = refl
+numbered-outcome (Budget n) = refl
+numbered-outcome Read = refl
+numbered-outcome Write = refl
+numbered-outcome Memory = refl
+numbered-outcome (Limit what) = refl
+numbered-outcome (Version version.New) = refl
+numbered-outcome (Version (version.Atomic word)) = refl
+numbered-outcome (Part number fault) = refl
+numbered-outcome (Step steps) = refl
+numbered-outcome (Assembly at kind) = refl
 
 -- a fault with a number is no fault without one
 numbered-apart : (e f : Fault) → has_number e ≡ true → has_number f ≡ false → refuses e ≢ refuses f
 numbered-apart e f numbered none same =
-    false≢true (sym (sym numbered ∙ sym (numbered-status e) ∙ ap (λ o. is_numbered o.status) same ∙ numbered-status f ∙ none))
+    false≢true (sym (sym numbered ∙ sym (numbered-outcome e) ∙ ap is_numbered same ∙ numbered-outcome f ∙ none))
 
 numbered-takes : (p : Plan) (files : Option Files) (e : Fault) → has_number e ≡ true → Reaches files p (refuses e) → TakesMemory p
 numbered-takes (read name next) files e numbered reached = tt
@@ -169,6 +174,8 @@ numbered-takes (answer o) files e numbered reached = λ f none is. numbered-apar
 unnumbered : (p : Plan) (s s' : ShelfView) (f : Fault) → has_number f ≡ true → Stops p s s' f → Leaves s s' × TakesMemory p
 unnumbered p s s' (Elf e) n h = (h.0, numbered-takes p s.files (Elf e) n h.1)
 unnumbered p s s' (Budget b) n h = (h.0, numbered-takes p s.files (Budget b) n h.1)
+unnumbered p s s' (Version (version.Atomic word)) n h = (h.0, numbered-takes p s.files (Version (version.Atomic word)) n h.1)
+unnumbered p s s' (Version version.New) n h = absurd (false≢true n)
 unnumbered p s s' (Part number fault) n h = (h.0, numbered-takes p s.files (Part number fault) n h.1)
 unnumbered p s s' (Step steps) n h = (h.0, numbered-takes p s.files (Step steps) n h.1)
 unnumbered p s s' (Assembly at kind) n h = (h.0, numbered-takes p s.files (Assembly at kind) n h.1)

@@ -17,7 +17,7 @@ use Rattle.rv_plan.specs.FileCalls.{IsUnchanged, Loads, Performs, PerformsBehind
 use Rattle.rv_plan.specs.declared.faults.Fault.{Fault}
 use Rattle.rv_plan.specs.declared.faults.Limited.{Limited}
 use Rattle.rv_plan.specs.declared.faults.Limited.TheVariants as limited
-use Rattle.rv_plan.specs.declared.faults.Fault.TheVariants.{Words, Elf, Budget, Read, Write, Memory, Limit, Part, Step, Assembly}
+use Rattle.rv_plan.specs.declared.faults.Fault.TheVariants.{Words, Elf, Budget, Read, Write, Memory, Limit, Version, Part, Step, Assembly}
 use Rattle.rv_plan.specs.declared.loading.Loaded.{Loaded}
 use Rattle.rv_plan.specs.declared.told.Told.{Told}
 
@@ -84,6 +84,7 @@ pub read-stops : (name : List ℕ) (limit : ℕ) (what : Limited) (s s' : ShelfV
 read-stops name limit what s s' Words next h = absurd h
 read-stops name limit what s s' (Elf e) next h = absurd h
 read-stops name limit what s s' (Budget n) next h = absurd h
+read-stops name limit what s s' (Version reason) next h = absurd h
 read-stops name limit what s s' (Part number fault) next h = absurd h
 read-stops name limit what s s' (Step steps) next h = absurd h
 read-stops name limit what s s' (Assembly at kind) next h = absurd h
@@ -104,6 +105,7 @@ pub input-refused : (elf input bytes : List ℕ) (before middle after : ShelfVie
 input-refused elf input bytes before middle after Words was h next = absurd h
 input-refused elf input bytes before middle after (Elf e) was h next = absurd h
 input-refused elf input bytes before middle after (Budget n) was h next = absurd h
+input-refused elf input bytes before middle after (Version reason) was h next = absurd h
 input-refused elf input bytes before middle after (Part number fault) was h next = absurd h
 input-refused elf input bytes before middle after (Step steps) was h next = absurd h
 input-refused elf input bytes before middle after (Assembly at kind) was h next = absurd h
@@ -166,6 +168,7 @@ lift-stops : (s s' s'' : ShelfView) (p q : Plan) (f : Fault) → IsUnchanged s s
 lift-stops s s' s'' p q Words same takes on fails h = (leaves-behind same h.0, on (refuses Words) (reaches-before p (refuses Words) same h.1))
 lift-stops s s' s'' p q (Elf e) same takes on fails h = (leaves-behind same h.0, on (refuses (Elf e)) (reaches-before p (refuses (Elf e)) same h.1))
 lift-stops s s' s'' p q (Budget n) same takes on fails h = (leaves-behind same h.0, on (refuses (Budget n)) (reaches-before p (refuses (Budget n)) same h.1))
+lift-stops s s' s'' p q (Version reason) same takes on fails h = (leaves-behind same h.0, on (refuses (Version reason)) (reaches-before p (refuses (Version reason)) same h.1))
 lift-stops s s' s'' p q (Part number fault) same takes on fails h = (leaves-behind same h.0, on (refuses (Part number fault)) (reaches-before p (refuses (Part number fault)) same h.1))
 lift-stops s s' s'' p q (Step steps) same takes on fails h = (leaves-behind same h.0, on (refuses (Step steps)) (reaches-before p (refuses (Step steps)) same h.1))
 lift-stops s s' s'' p q (Assembly at kind) same takes on fails h = (leaves-behind same h.0, on (refuses (Assembly at kind)) (reaches-before p (refuses (Assembly at kind)) same h.1))
@@ -207,6 +210,7 @@ performs-behind p s s' (Ok told) h = h
 performs-behind p s s' (Err Words) h = h
 performs-behind p s s' (Err (Elf e)) h = h
 performs-behind p s s' (Err (Budget n)) h = h
+performs-behind p s s' (Err (Version reason)) h = h
 performs-behind p s s' (Err (Part number fault)) h = h
 performs-behind p s s' (Err (Step steps)) h = h
 performs-behind p s s' (Err (Assembly at kind)) h = h

@@ -30,7 +30,7 @@ pub record IsOutcomeOf (plan : Plan) (files : Files) (shelf' : ShelfView) (sink 
 
 -- the statuses of the table
 abbrev pub IsStatus : ℕ → Type 0
-IsStatus n = IsInRange 0 8 n ⊎ IsInRange 11 13 n
+IsStatus n = IsInRange 0 8 n ⊎ IsInRange 10 13 n
 
 -- An outcome has a status of the table, and writes nothing unless it is a success.
 pub record IsListed (o : Outcome) : Type 0 where

@@ -1,5 +1,6 @@
 -- The lines of faults: numbers are decimal, and each line ends with a newline (this project's own).
-use Rattle.std.specs.Prelude.{ℕ, ◌-◌, List, [], ◌∷◌, ◌++◌, codes, decimal, ◌==◌, if◌then◌else◌}
+use Rattle.std.specs.Prelude.{ℕ, ◌-◌, false, List, [], ◌∷◌, ◌++◌, length, replicate, codes, decimal, ◌==◌, if◌then◌else◌}
+use Rattle.std.specs.Fmt.{digits}
 
 abbrev pub line : List ℕ → List ℕ
 line text = text ++ 10 ∷ []
@@ -24,6 +25,13 @@ budget_line budget = line (codes "fault budget " ++ decimal budget)
 
 abbrev pub limit_line : List ℕ → List ℕ
 limit_line what = line (codes "fault limit " ++ what)
+
+-- eight hexadecimal digits in lower case
+abbrev pub hex8 : ℕ → List ℕ
+hex8 n = replicate (8 - length (digits 16 false n)) 48 ++ digits 16 false n
+
+abbrev pub version_line : List ℕ → List ℕ
+version_line reason = line (codes "fault version " ++ reason)
 
 abbrev pub part_line : ℕ → List ℕ → List ℕ
 part_line number what = line (codes "fault part " ++ decimal number ++ 32 ∷ what)

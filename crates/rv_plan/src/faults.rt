@@ -2,8 +2,9 @@
 
 ghost use Rattle.std.specs.Prelude.{◌≡◌, IfOk, IsTrue, MatchOption, string_bytes};
 ghost use Rattle.rv_elf.specs.Faults.{number_of};
-ghost use Rattle.rv_plan.specs.Lines.{name_at, fault_names, assembly_line as assembly_line_of, elf_line as elf_line_of, kind_names, part_line as part_line_of};
-ghost use Rattle.rv_plan.specs.Faults.{status_of, line_of, has_number, what_of};
+ghost use Rattle.rv_plan.specs.Lines.{name_at, fault_names, assembly_line as assembly_line_of, elf_line as elf_line_of, kind_names, part_line as part_line_of, version_line};
+ghost use Rattle.rv_plan.specs.Faults.{status_of, line_of, has_number, reason_of, what_of};
+ghost use Rattle.rv_plan.specs.declared.faults.VersionFault.TheVariants as version;
 
 use rv_base::{NoMemory, Text};
 use rv_elf::ElfFault;
@@ -39,6 +40,15 @@ pub enum PartFault {
     Cut,
 }
 
+/// Why a record has no upgrade.
+#[derive(Clone, Copy, Debug)]
+pub enum VersionFault {
+    /// It has version 2 already.
+    New,
+    /// Its run ends at this word of extension A, which is illegal in version 1 and an instruction in version 2.
+    Atomic(u32),
+}
+
 /// Why a command ended without doing its work.
 #[derive(Clone, Copy, Debug)]
 pub enum Fault {
@@ -56,6 +66,8 @@ pub enum Fault {
     Memory,
     /// A file, or what a run needs, is above its limit.
     Limit(Limited),
+    /// A record of version 1 is asked for one of version 2, and has none.
+    Version(VersionFault),
     /// The part of this number has a fault.
     Part(u32, PartFault),
     /// A step is asked for that the record doesn't have; it has this number of steps.
@@ -77,6 +89,7 @@ impl Fault {
             Fault::Write => 6,
             Fault::Memory => 7,
             Fault::Limit(_) => 8,
+            Fault::Version(_) => 10,
             Fault::Part(_, _) => 11,
             Fault::Step(_) => 12,
             Fault::Assembly(_, _) => 13,
@@ -91,6 +104,7 @@ impl Fault {
             Fault::Words => Some("fault words\n"),
             Fault::Elf(_)
             | Fault::Budget(_)
+            | Fault::Version(VersionFault::Atomic(_))
             | Fault::Part(_, _)
             | Fault::Step(_)
             | Fault::Assembly(_, _) => None,
@@ -103,6 +117,7 @@ impl Fault {
             Fault::Limit(Limited::Shards) => Some("fault limit shards\n"),
             Fault::Limit(Limited::Parts) => Some("fault limit parts\n"),
             Fault::Limit(Limited::Source) => Some("fault limit source\n"),
+            Fault::Version(VersionFault::New) => Some("fault version new\n"),
         }
     }
 
@@ -114,6 +129,7 @@ impl Fault {
         let line = match self {
             Fault::Elf(fault) => elf_line(alloc, *fault),
             Fault::Budget(steps) => format!(in alloc; "fault budget {steps}\n"),
+            Fault::Version(VersionFault::Atomic(word)) => atomic_line(alloc, *word),
             Fault::Part(number, fault) => part_line(alloc, *number, *fault),
             Fault::Step(steps) => format!(in alloc; "fault step {steps}\n"),
             Fault::Assembly(at, kind) => assembly_line(alloc, *at, *kind),
@@ -133,6 +149,12 @@ fn elf_line(alloc: Global, fault: ElfFault) -> Result<String, AllocError>
     let name = fault_name(fault);
     let line = format!(in alloc; "fault elf {number} {name}\n")?;
     Ok(line)
+}
+
+fn atomic_line(alloc: Global, word: u32) -> Result<String, AllocError>
+    ensures { IfOk result (λ text. string_bytes text ≡ version_line (reason_of (version.Atomic word))) }
+{
+    format!(in alloc; "fault version atomic {word:08x}\n")
 }
 
 fn part_line(alloc: Global, number: u32, fault: PartFault) -> Result<String, AllocError>

@@ -11,7 +11,7 @@ mod tests;
 mod told;
 mod writing;
 
-pub use faults::{Fault, Limited, PartFault};
+pub use faults::{Fault, Limited, PartFault, VersionFault};
 pub use loading::{Loaded, PIECE, image_of, load, read_on, read_within};
 pub use telling::{print_no_memory, tell};
 pub use told::Told;

@@ -1,7 +1,7 @@
 //! Shapes of commands, over files in memory: a text of several lines, a refusal with a verdict, many files, and reads up to a limit.
 
 use crate::telling::tell;
-use crate::{DueFile, Fault, Limited, PartFault, Told, read_within, write_files};
+use crate::{DueFile, Fault, Limited, PartFault, Told, VersionFault, read_within, write_files};
 use rv_base::Text;
 use rv_host::{MemShelf, MemSink};
 use std::process::Abort;
@@ -58,6 +58,17 @@ fn a_verdict_is_told_with_its_own_status(rt: HostRuntime) -> Result<(), Fail> {
 fn faults_with_names_and_numbers_are_told_so(rt: HostRuntime) -> Result<(), Fail> {
     for (fault, status, line) in [
         (Fault::Limit(Limited::Parts), 8, "fault limit parts\n"),
+        (Fault::Version(VersionFault::New), 10, "fault version new\n"),
+        (
+            Fault::Version(VersionFault::Atomic(0x1002_A32F)),
+            10,
+            "fault version atomic 1002a32f\n",
+        ),
+        (
+            Fault::Version(VersionFault::Atomic(0x2F)),
+            10,
+            "fault version atomic 0000002f\n",
+        ),
         (Fault::Part(1, PartFault::Head), 11, "fault part 1 head\n"),
         (
             Fault::Part(63, PartFault::Front),

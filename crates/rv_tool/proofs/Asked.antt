@@ -20,7 +20,7 @@ use Rattle.rv_plan.specs.Plan.{Outcome, answer, read_program, refuses}
 use Rattle.rv_plan.specs.Endings.{IsContents}
 use Rattle.rv_plan.specs.FileCalls.{IsUnchanged, Loads, Performs, PerformsBehind, ReadsWithin, Stops}
 use Rattle.rv_plan.specs.declared.faults.Fault.{Fault}
-use Rattle.rv_plan.specs.declared.faults.Fault.TheVariants.{Words, Elf, Budget, Read, Write, Memory, Limit, Part, Step, Assembly}
+use Rattle.rv_plan.specs.declared.faults.Fault.TheVariants.{Words, Elf, Budget, Read, Write, Memory, Limit, Version, Part, Step, Assembly}
 use Rattle.rv_plan.specs.declared.faults.Limited.TheVariants as limited
 use Rattle.rv_plan.specs.declared.loading.Loaded.{Loaded}
 use Rattle.rv_plan.specs.declared.told.Told.{Told}
@@ -94,6 +94,7 @@ tells-behind o s (Err Read) none says = absurd says
 tells-behind o s (Err Write) none says = absurd says
 tells-behind o s (Err Memory) none says = left (still s)
 tells-behind o s (Err (Limit what)) none says = absurd says
+tells-behind o s (Err (Version reason)) none says = absurd says
 tells-behind o s (Err (Part number fault)) none says = absurd says
 tells-behind o s (Err (Step steps)) none says = (left (still s), sym says)
 tells-behind o s (Err (Assembly at kind)) none says = absurd says

@@ -12,7 +12,7 @@ use Rattle.rv_plan.specs.Plan.{answer, with_due}
 use Rattle.rv_plan.specs.Endings.{IsWritten, WriteFails}
 use Rattle.rv_plan.specs.FileCalls.{Performs, PerformsBehind, ReadsWithin, Stops, Writes}
 use Rattle.rv_plan.specs.declared.faults.Fault.{Fault}
-use Rattle.rv_plan.specs.declared.faults.Fault.TheVariants.{Words, Elf, Budget, Read, Write, Memory, Limit, Part, Step, Assembly}
+use Rattle.rv_plan.specs.declared.faults.Fault.TheVariants.{Words, Elf, Budget, Read, Write, Memory, Limit, Version, Part, Step, Assembly}
 use Rattle.rv_plan.specs.declared.faults.Limited.TheVariants as limited
 use Rattle.rv_plan.specs.declared.told.Told.{Told}
 use Rattle.rv_plan.proofs.Lemmas.{performs-read, read-stops}
@@ -45,6 +45,7 @@ source-refused w source s (Budget n) h = absurd h
 source-refused w source s Read h = absurd h
 source-refused w source s Write h = absurd h
 source-refused w source s (Limit what) h = absurd h
+source-refused w source s (Version reason) h = absurd h
 source-refused w source s (Part number fault) h = absurd h
 source-refused w source s (Step steps) h = absurd h
 

@@ -20,7 +20,7 @@ use Rattle.rv_plan.specs.declared.faults.Limited.TheVariants as limited
 use Rattle.rv_plan.specs.declared.faults.Fault.{Fault}
 use Rattle.rv_plan.specs.declared.faults.Fault.TheVariants.{Limit}
 use Rattle.rv_plan.proofs.Lemmas.{reaches-told}
-use Rattle.rv_tool.specs.CommandLine.{MakeWords, CheckWords, CommandWords, make, check, settle, run, explain, trial, state, cell, split, join, asm}
+use Rattle.rv_tool.specs.CommandLine.{MakeWords, CheckWords, CommandWords, make, check, settle, run, explain, trial, state, cell, split, join, asm, upgrade}
 use Rattle.rv_tool.specs.CheckOfMade.{IsCheckOf}
 use Rattle.rv_tool.specs.Headline.{Headline, Made}
 use Rattle.rv_tool.specs.Lines.{accepted_line}
@@ -167,6 +167,7 @@ check-of-made made (Some (cell c)) s s' s'' t t' u u' files m n asked = absurd a
 check-of-made made (Some (join c)) s s' s'' t t' u u' files m n asked = absurd asked
 check-of-made made (Some (split c)) s s' s'' t t' u u' files m n asked = absurd asked
 check-of-made made (Some (asm c)) s s' s'' t t' u u' files m n asked = absurd asked
+check-of-made made (Some (upgrade c)) s s' s'' t t' u u' files m n asked = absurd asked
 check-of-made None (Some (check c)) s s' s'' t t' u u' files m n asked = absurd asked
 check-of-made (Some (check w)) (Some (check c)) s s' s'' t t' u u' files m n asked = absurd asked
 check-of-made (Some (settle w)) (Some (check c)) s s' s'' t t' u u' files m n asked = absurd asked
@@ -178,5 +179,6 @@ check-of-made (Some (cell w)) (Some (check c)) s s' s'' t t' u u' files m n aske
 check-of-made (Some (join w)) (Some (check c)) s s' s'' t t' u u' files m n asked = absurd asked
 check-of-made (Some (split w)) (Some (check c)) s s' s'' t t' u u' files m n asked = absurd asked
 check-of-made (Some (asm w)) (Some (check c)) s s' s'' t t' u u' files m n asked = absurd asked
+check-of-made (Some (upgrade w)) (Some (check c)) s s' s'' t t' u u' files m n asked = absurd asked
 check-of-made (Some (make w)) (Some (check c)) s s' s'' t t' u u' files m n asked = λ told calm silent answers headline answers' zero.
     both w c s s' s'' t t' u u' files n asked told calm silent (subst (Answers (plan (Some (make w))) s s' t t') zero answers) (headline zero) answers'

@@ -21,7 +21,7 @@ use Rattle.rv_plan.specs.Plan.{Outcome, Plan, read, answer, read_program, read_w
 use Rattle.rv_plan.specs.Endings.{IsContents, IsWritten}
 use Rattle.rv_plan.specs.FileCalls.{IsUnchanged, Loads, Performs, PerformsBehind, ReadsWithin, Stops}
 use Rattle.rv_plan.specs.declared.faults.Fault.{Fault}
-use Rattle.rv_plan.specs.declared.faults.Fault.TheVariants.{Words, Elf, Budget, Read, Write, Memory, Limit, Part, Step, Assembly}
+use Rattle.rv_plan.specs.declared.faults.Fault.TheVariants.{Words, Elf, Budget, Read, Write, Memory, Limit, Version, Part, Step, Assembly}
 use Rattle.rv_plan.specs.declared.faults.Limited.TheVariants as limited
 use Rattle.rv_plan.specs.declared.loading.Loaded.{Loaded}
 use Rattle.rv_plan.specs.declared.told.Told.{Told}
@@ -86,6 +86,7 @@ unjudged : (name elf input : List ℕ) (next : List ℕ → Plan) (s s' : ShelfV
 unjudged name elf input next s s' Words h = absurd h
 unjudged name elf input next s s' (Elf e) h = absurd h
 unjudged name elf input next s s' (Budget n) h = absurd h
+unjudged name elf input next s s' (Version reason) h = absurd h
 unjudged name elf input next s s' (Part number fault) h = absurd h
 unjudged name elf input next s s' (Step steps) h = absurd h
 unjudged name elf input next s s' (Assembly at kind) h = absurd h

@@ -311,6 +311,7 @@ file-added n elf input new p j ps file x (Err (fault.Budget _)) e same front add
 file-added n elf input new p j ps file x (Err fault.Read) e same front adds = absurd adds
 file-added n elf input new p j ps file x (Err fault.Write) e same front adds = absurd adds
 file-added n elf input new p j ps file x (Err (fault.Limit _)) e same front adds = absurd adds
+file-added n elf input new p j ps file x (Err (fault.Version _)) e same front adds = absurd adds
 file-added n elf input new p j ps file x (Err (fault.Step _)) e same front adds = absurd adds
 file-added n elf input new p j ps file x (Err (fault.Assembly _ _)) e same front adds = absurd adds
 
@@ -367,6 +368,7 @@ first-part w elf input file x new (Err g) e checked adds f is = let same : g ≡
     go fault.Read h = absurd h
     go fault.Write h = absurd h
     go (fault.Limit _) h = absurd h
+    go (fault.Version _) h = absurd h
     go (fault.Step _) h = absurd h
     go (fault.Assembly _ _) h = absurd h
 
@@ -404,6 +406,7 @@ part-stops w elf input more p j ps file new s (fault.Budget _) h = absurd h
 part-stops w elf input more p j ps file new s fault.Read h = absurd h
 part-stops w elf input more p j ps file new s fault.Write h = absurd h
 part-stops w elf input more p j ps file new s (fault.Limit _) h = absurd h
+part-stops w elf input more p j ps file new s (fault.Version _) h = absurd h
 part-stops w elf input more p j ps file new s (fault.Step _) h = absurd h
 part-stops w elf input more p j ps file new s (fault.Assembly _ _) h = absurd h
 
@@ -426,6 +429,7 @@ begins-stops w elf input file s (fault.Budget _) h = absurd h
 begins-stops w elf input file s fault.Read h = absurd h
 begins-stops w elf input file s fault.Write h = absurd h
 begins-stops w elf input file s (fault.Limit _) h = absurd h
+begins-stops w elf input file s (fault.Version _) h = absurd h
 begins-stops w elf input file s (fault.Step _) h = absurd h
 begins-stops w elf input file s (fault.Assembly _ _) h = absurd h
 

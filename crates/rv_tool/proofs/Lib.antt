@@ -17,3 +17,4 @@ mod Spelling
 mod Splitting
 mod Trying
 mod Unread
+mod Upgrading

@@ -17,18 +17,20 @@ use Rattle.rv_rules.specs.Verdict.{judge, parse, verdict}
 use Rattle.rv_plan.specs.Plan.{Outcome, Plan, answer, read, read_within, refuses}
 use Rattle.rv_plan.specs.Answers.{AllListed, IsListed}
 use Rattle.rv_plan.specs.declared.faults.Limited.TheVariants as limited
-use Rattle.rv_plan.specs.declared.faults.Fault.TheVariants.{Words, Budget, Limit, Step, Part, Memory, Assembly}
+use Rattle.rv_plan.specs.declared.faults.Fault.TheVariants.{Words, Budget, Limit, Version, Step, Part, Memory, Assembly}
 use Rattle.rv_plan.proofs.Lemmas.{at-most-8, listed-answer, listed-if, listed-program, listed-read, listed-within, refusal-listed, success-listed}
-use Rattle.rv_tool.specs.CommandLine.{MakeWords, RunWords, TrialWords, CommandWords, make, check, settle, run, explain, trial, state, cell, SplitWords, JoinWords, AsmWords, split, join, asm}
+use Rattle.rv_tool.specs.CommandLine.{MakeWords, RunWords, TrialWords, CommandWords, make, check, settle, run, explain, trial, state, cell, SplitWords, JoinWords, AsmWords, UpgradeWords, split, join, asm, upgrade}
 use Rattle.rv_asm.specs.Assembly.{assembly, symbols_of}
 use Rattle.rv_asm.specs.Symbols.{Symbol}
 use Rattle.rv_asm.specs.declared.faults.AsmFault.{AsmFault}
 use Rattle.rv_asm.specs.declared.faults.AsmFault.TheVariants.{At, NoMemory}
 use Rattle.rv_asm.specs.declared.limits.TheConstants.{SOURCE_LIMIT}
+use Rattle.rv_upgrade.specs.Upgrade.{blocked}
+use Rattle.rv_upgrade.specs.declared.reasons.Blocked.{Blocked}
 use Rattle.rv_trial.specs.Trials.{ends_within, budget, trial as trial_told}
 use Rattle.rv_trial.specs.declared.summary.Trial.{Trial}
 use Rattle.rv_tool.specs.Differing.{least_differing}
-use Rattle.rv_tool.specs.Outcome.{denies, ran, made, told_verdict, settled, settled_by, explained, tried, answered, asked, question_plan, state_text, cell_text, make_plan, read_record, check_plan, settle_plan, run_plan, plan_of, plan, cut, unless_fault, unless_refused, parts_from, behind_first, all_parts, assembled}
+use Rattle.rv_tool.specs.Outcome.{denies, ran, made, told_verdict, settled, settled_by, explained, tried, answered, asked, question_plan, state_text, cell_text, make_plan, read_record, check_plan, settle_plan, run_plan, plan_of, plan, cut, unless_fault, unless_refused, parts_from, behind_first, all_parts, assembled, unless_blocked, upgrade_done, renewed, version_fault}
 use Rattle.rv_plan.specs.declared.faults.PartFault.{PartFault}
 use Rattle.rv_tool.specs.Parts.{Joined, added, added_behind, begun, opened, part_name, whole_of}
 
@@ -111,6 +113,14 @@ assembled-listed w symbols (Err (At n kind)) = refusal-listed (Assembly n kind)
 assembled-listed w symbols (Err NoMemory) = refusal-listed Memory
 assembled-listed w symbols (Ok words) = success-listed _ refl
 
+unless_blocked-listed : (reason : Option Blocked) (o : Outcome) → IsListed o → IsListed (unless_blocked reason o)
+unless_blocked-listed (Some reason) o h = refusal-listed (Version (version_fault reason))
+unless_blocked-listed None o h = h
+
+renewed-listed : (w : UpgradeWords) (file : List ℕ) (r : Result Parts Refusal) → IsListed (renewed w file r)
+renewed-listed w file (Err r) = denied-listed _
+renewed-listed w file (Ok p) = unless_blocked-listed (blocked p) (upgrade_done w file p.header.steps) (success-listed _ refl)
+
 command-listed : (c : CommandWords) → AllListed (plan_of c)
 command-listed (make w) =
     listed-program w.elf w.input (make_plan w) (λ program given. listed-answer _ (made-listed w program given (ends_within (image w.version program) given w.budget)))
@@ -130,6 +140,7 @@ command-listed (join w) =
     listed-program w.elf w.input (all_parts w) (λ program given. listed-within (part_name w.name 0) RECORD_LIMIT limited.Record (behind_first w program given) (first-listed w program given))
 command-listed (asm w) =
     listed-within w.source SOURCE_LIMIT limited.Source (λ source. answer (assembled w (symbols_of source) (assembly source))) (λ source. listed-answer _ (assembled-listed w (symbols_of source) (assembly source)))
+command-listed (upgrade w) = listed-within w.file RECORD_LIMIT limited.Record (λ file. answer (renewed w file (parse file))) (λ file. listed-answer _ (renewed-listed w file (parse file)))
 
 pub plan-listed : (c : Option CommandWords) → AllListed (plan c)
 plan-listed None = listed-answer (refuses Words) (refusal-listed Words)

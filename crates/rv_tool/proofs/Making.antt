@@ -22,7 +22,7 @@ use Rattle.rv_plan.specs.Plan.{Outcome, refuses, with_due}
 use Rattle.rv_plan.specs.Endings.{Leaves}
 use Rattle.rv_plan.specs.FileCalls.{Loads, Performs, PerformsBehind, Writes}
 use Rattle.rv_plan.specs.declared.faults.Fault.{Fault}
-use Rattle.rv_plan.specs.declared.faults.Fault.TheVariants.{Words, Elf, Budget, Read, Write, Memory, Limit, Part, Step, Assembly}
+use Rattle.rv_plan.specs.declared.faults.Fault.TheVariants.{Words, Elf, Budget, Read, Write, Memory, Limit, Version, Part, Step, Assembly}
 use Rattle.rv_plan.specs.declared.faults.Limited.TheVariants as limited
 use Rattle.rv_plan.specs.declared.loading.Loaded.{Loaded}
 use Rattle.rv_plan.specs.declared.told.Told.{Told}
@@ -88,6 +88,7 @@ record-torn w elf input p bytes s s' f h is wrote =
 pub unsurveyed : (w : MakeWords) (elf input : List ℕ) (s s' : ShelfView) (f : Fault) → Leaves s s' → IsNoSurvey (image w.version elf) input w.shard w.budget f → PerformsBehind (make_plan w elf input) s s' (Err f)
 unsurveyed w elf input s s' Words h k = absurd k
 unsurveyed w elf input s s' (Elf e) h k = absurd k
+unsurveyed w elf input s s' (Version reason) h k = absurd k
 unsurveyed w elf input s s' (Part number fault) h k = absurd k
 unsurveyed w elf input s s' (Step steps) h k = absurd k
 unsurveyed w elf input s s' (Assembly at kind) h k = absurd k

@@ -8,7 +8,8 @@ use Rattle.rv_plan.specs.Answers.Prints.{whole, torn}
 use Rattle.rv_plan.specs.Endings.{Ends, TakesMemory, WriteFails}
 use Rattle.rv_plan.specs.Endings.Ends.{done, unread, unwritten, no_memory}
 use Rattle.rv_plan.specs.FileCalls.{IsUnchanged, Performs, Stops}
-use Rattle.rv_plan.specs.declared.faults.Fault.TheVariants.{Words, Elf, Budget, Read, Write, Memory, Limit, Part, Step, Assembly}
+use Rattle.rv_plan.specs.declared.faults.VersionFault.TheVariants as version
+use Rattle.rv_plan.specs.declared.faults.Fault.TheVariants.{Words, Elf, Budget, Read, Write, Memory, Limit, Version, Part, Step, Assembly}
 use Rattle.rv_plan.specs.declared.told.Told.{Told}
 use Rattle.rv_trial.specs.Trials.{IsTold, trial as trial_told}
 use Rattle.rv_trial.specs.declared.summary.Trial.{Trial}
@@ -31,6 +32,8 @@ takes-memory : (w : TrialWords) (t : Option Trial) → TakesMemory (answer (trie
 takes-memory w None Words h = differ _ (refuses Words) refl
 takes-memory w None (Elf e) h = absurd (true≢false h)
 takes-memory w None (Budget n) h = absurd (true≢false h)
+takes-memory w None (Version version.New) h = differ _ (refuses (Version version.New)) refl
+takes-memory w None (Version (version.Atomic word)) h = absurd (true≢false h)
 takes-memory w None (Part number fault) h = absurd (true≢false h)
 takes-memory w None (Step steps) h = absurd (true≢false h)
 takes-memory w None (Assembly at kind) h = absurd (true≢false h)
@@ -41,6 +44,8 @@ takes-memory w None (Limit what) h = differ _ (refuses (Limit what)) refl
 takes-memory w (Some t) Words h = differ _ (refuses Words) refl
 takes-memory w (Some t) (Elf e) h = absurd (true≢false h)
 takes-memory w (Some t) (Budget n) h = absurd (true≢false h)
+takes-memory w (Some t) (Version version.New) h = differ _ (refuses (Version version.New)) refl
+takes-memory w (Some t) (Version (version.Atomic word)) h = absurd (true≢false h)
 takes-memory w (Some t) (Part number fault) h = absurd (true≢false h)
 takes-memory w (Some t) (Step steps) h = absurd (true≢false h)
 takes-memory w (Some t) (Assembly at kind) h = absurd (true≢false h)

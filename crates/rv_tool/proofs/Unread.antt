@@ -26,16 +26,18 @@ use Rattle.rv_plan.specs.Answers.Prints.{whole, torn}
 use Rattle.rv_plan.specs.declared.faults.Limited.{Limited}
 use Rattle.rv_plan.specs.declared.faults.Limited.TheVariants as limited
 use Rattle.rv_plan.specs.declared.faults.Fault.TheVariants.{Words, Limit, Part}
-use Rattle.rv_tool.specs.CommandLine.{MakeWords, RunWords, TrialWords, CommandWords, make, check, settle, run, explain, trial, state, cell, SplitWords, JoinWords, AsmWords, split, join, asm}
+use Rattle.rv_tool.specs.CommandLine.{MakeWords, RunWords, TrialWords, CommandWords, make, check, settle, run, explain, trial, state, cell, SplitWords, JoinWords, AsmWords, UpgradeWords, split, join, asm, upgrade}
 use Rattle.rv_asm.specs.Assembly.{assembly, symbols_of}
 use Rattle.rv_asm.specs.Symbols.{Symbol}
 use Rattle.rv_asm.specs.declared.faults.AsmFault.{AsmFault}
 use Rattle.rv_asm.specs.declared.faults.AsmFault.TheVariants.{At, NoMemory}
 use Rattle.rv_asm.specs.declared.limits.TheConstants.{SOURCE_LIMIT}
 use Rattle.rv_tool.specs.Differing.{least_differing}
+use Rattle.rv_upgrade.specs.Upgrade.{blocked}
+use Rattle.rv_upgrade.specs.declared.reasons.Blocked.{Blocked}
 use Rattle.rv_trial.specs.Trials.{ends_within, trial as trial_told}
 use Rattle.rv_trial.specs.declared.summary.Trial.{Trial}
-use Rattle.rv_tool.specs.Outcome.{ran, made, told_verdict, settled, settled_by, explained, tried, answered, asked, question_plan, state_text, cell_text, make_plan, read_record, check_plan, settle_plan, run_plan, plan_of, plan, denies, cut, unless_fault, unless_refused, parts_from, behind_first, all_parts, assembled}
+use Rattle.rv_tool.specs.Outcome.{ran, made, told_verdict, settled, settled_by, explained, tried, answered, asked, question_plan, state_text, cell_text, make_plan, read_record, check_plan, settle_plan, run_plan, plan_of, plan, denies, cut, unless_fault, unless_refused, parts_from, behind_first, all_parts, assembled, unless_blocked, upgrade_done, renewed}
 use Rattle.rv_plan.specs.declared.faults.PartFault.{PartFault}
 use Rattle.rv_tool.specs.Lines.{refused_line}
 use Rattle.rv_tool.specs.Parts.{Joined, added, added_behind, begun, opened, part_name, whole_of}
@@ -145,6 +147,14 @@ assembled-read w symbols (Err (At n kind)) = apart 13 refl
 assembled-read w symbols (Err NoMemory) = apart 7 refl
 assembled-read w symbols (Ok words) = apart 0 refl
 
+unless_blocked-read : (reason : Option Blocked) (o : Outcome) → o.status ≢ 5 → (unless_blocked reason o).status ≢ 5
+unless_blocked-read (Some reason) o h = apart 10 refl
+unless_blocked-read None o h = h
+
+renewed-read : (w : UpgradeWords) (file : List ℕ) (r : Result Parts Refusal) → (renewed w file r).status ≢ 5
+renewed-read w file (Err r) = apart 1 refl
+renewed-read w file (Ok p) = unless_blocked-read (blocked p) (upgrade_done w file p.header.steps) (apart 0 refl)
+
 command-read : (c : CommandWords) → AllRead (plan_of c)
 command-read (make w) =
     read-program-read w.elf w.input (make_plan w) (λ program given. read-answer _ (made-read w program given (ends_within (image w.version program) given w.budget)))
@@ -163,6 +173,7 @@ command-read (join w) =
     read-program-read w.elf w.input (all_parts w) (λ program given. read-limited (part_name w.name 0) RECORD_LIMIT limited.Record (behind_first w program given) (first-read w program given))
 command-read (asm w) =
     read-limited w.source SOURCE_LIMIT limited.Source (λ source. answer (assembled w (symbols_of source) (assembly source))) (λ source. read-answer _ (assembled-read w (symbols_of source) (assembly source)))
+command-read (upgrade w) = read-limited w.file RECORD_LIMIT limited.Record (λ file. answer (renewed w file (parse file))) (λ file. read-answer _ (renewed-read w file (parse file)))
 
 plan-read : (c : Option CommandWords) → AllRead (plan c)
 plan-read None = read-answer (refuses Words) (apart 2 refl)

@@ -130,6 +130,11 @@ pub record AsmWords : Type 0 where
   pub source : List ℕ
   pub target : List ℕ
 
+-- upgrade OLD NEW
+pub record UpgradeWords : Type 0 where
+  pub file : List ℕ
+  pub target : List ℕ
+
 -- a command with its numbers read
 pub data CommandWords : Type 0 where
   make : MakeWords → CommandWords
@@ -143,6 +148,7 @@ pub data CommandWords : Type 0 where
   split : SplitWords → CommandWords
   join : JoinWords → CommandWords
   asm : AsmWords → CommandWords
+  upgrade : UpgradeWords → CommandWords
 
 -- make with its numbers, where each is one
 abbrev pub make_words : ℕ → List ℕ → List ℕ → List ℕ → Option ℕ → Option ℕ → Option ℕ → Option CommandWords
@@ -229,6 +235,10 @@ abbrev pub asm_command : List (List ℕ) → Option CommandWords
 asm_command (source ∷ target ∷ []) = Some (asm (record { source = source; target = target }))
 asm_command _ = None
 
+abbrev pub upgrade_command : List (List ℕ) → Option CommandWords
+upgrade_command (file ∷ target ∷ []) = Some (upgrade (record { file = file; target = target }))
+upgrade_command _ = None
+
 -- the command that the words spell, if they spell one
 abbrev pub command : List (List ℕ) → Option CommandWords
 command [] = None
@@ -246,7 +256,8 @@ command (name ∷ arguments) =
     else (if bytes_eq name (codes "split") then split_command arguments
     else (if bytes_eq name (codes "join") then join_command arguments
     else (if bytes_eq name (codes "asm") then asm_command arguments
-    else None))))))))))))
+    else (if bytes_eq name (codes "upgrade") then upgrade_command arguments
+    else None)))))))))))))
 
 -- a command that is given more than one worker
 abbrev pub is_teamwork : Option CommandWords → Bool

@@ -3,7 +3,7 @@ use Rattle.std.specs.Prelude.{◌≡◌, Option, Some, None, MatchOption, IsTrue
 use Rattle.std.specs.Int.{IsInRange}
 use Rattle.rv_base.specs.declared.limits.TheConstants.{BUDGET_LIMIT, SHARD_SIZE_LIMIT, WORKERS_LIMIT}
 use Rattle.rv_spec.specs.Cells.{is_cell}
-use Rattle.rv_tool.specs.CommandLine.{CommandWords, MakeWords, CheckWords, SettleWords, RunWords, ExplainWords, TrialWords, StateWords, CellWords, make, check, settle, run, explain, trial, state, cell, SplitWords, JoinWords, AsmWords, split, join, asm}
+use Rattle.rv_tool.specs.CommandLine.{CommandWords, MakeWords, CheckWords, SettleWords, RunWords, ExplainWords, TrialWords, StateWords, CellWords, make, check, settle, run, explain, trial, state, cell, SplitWords, JoinWords, AsmWords, UpgradeWords, split, join, asm, upgrade}
 use Rattle.rv_parts.specs.declared.cutting.TheConstants.{PARTS_LIMIT}
 use Rattle.rv_tool.specs.declared.commands.Command.{Command}
 use Rattle.rv_tool.specs.declared.commands.Command.TheVariants as command
@@ -18,6 +18,7 @@ use Rattle.rv_tool.specs.declared.commands.Cell.{Cell}
 use Rattle.rv_tool.specs.declared.commands.Split.{Split}
 use Rattle.rv_tool.specs.declared.commands.Join.{Join}
 use Rattle.rv_tool.specs.declared.commands.Asm.{Asm}
+use Rattle.rv_tool.specs.declared.commands.Upgrade.{Upgrade}
 use Rattle.rv_tool.specs.declared.commands.TheConstants.{LAST_STEP, LISTED_ROWS_LIMIT, LAST_NUMBER, LEAST_SIZE, SIZE_LIMIT}
 
 abbrev pub make_words : Make → MakeWords
@@ -53,6 +54,9 @@ join_words j = record { elf = j.elf.now; input = j.input.now; name = j.name.now;
 abbrev pub asm_words : Asm → AsmWords
 asm_words a = record { source = a.source.now; target = a.elf.now }
 
+abbrev pub upgrade_words : Upgrade → UpgradeWords
+upgrade_words u = record { file = u.old.now; target = u.target.now }
+
 abbrev pub words_of : Command → CommandWords
 words_of (command.Make m) = make (make_words m)
 words_of (command.Check c) = check (check_words c)
@@ -65,6 +69,7 @@ words_of (command.Cell c) = cell (cell_words c)
 words_of (command.Split s) = split (split_words s)
 words_of (command.Join j) = join (join_words j)
 words_of (command.Asm a) = asm (asm_words a)
+words_of (command.Upgrade u) = upgrade (upgrade_words u)
 
 -- what was spelled is the command, or none
 abbrev pub IsCommand : Option CommandWords → Option Command → Type 0
@@ -83,3 +88,4 @@ HasRanges (command.Cell c) = IsTrue (is_cell 1 c.number) × IsInRange 0 LAST_STE
 HasRanges (command.Split s) = IsInRange 1 PARTS_LIMIT s.parts
 HasRanges (command.Join j) = IsInRange 1 PARTS_LIMIT j.parts
 HasRanges (command.Asm a) = ⊤
+HasRanges (command.Upgrade u) = ⊤

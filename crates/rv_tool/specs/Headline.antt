@@ -10,7 +10,7 @@ use Rattle.rv_spec.specs.Grammar.{Spells}
 use Rattle.rv_spec.specs.Record.{Parts, record_file}
 use Rattle.rv_spec.specs.Run.{run as state_of}
 use Rattle.rv_spec.specs.Conclusion.{HasRecord, IsRecord, IsCollision}
-use Rattle.rv_rules.specs.Verdict.{judge, verdict}
+use Rattle.rv_rules.specs.Verdict.{judge, parse, verdict}
 use Rattle.rv_asm.specs.Assembly.{assembly}
 use Rattle.rv_asm.specs.Executable.{executable}
 use Rattle.rv_asm.specs.Laws.{HoldsStatements, statements_of}
@@ -23,9 +23,11 @@ use Rattle.rv_query.specs.OfRun.{cell_of_run}
 use Rattle.rv_query.specs.Questions.{image_of, snapshot}
 use Rattle.rv_trial.specs.Trials.{trial as trial_told, Accepted as IsAccepted}
 use Rattle.rv_trial.specs.declared.summary.Trial.{Trial}
-use Rattle.rv_tool.specs.CommandLine.{MakeWords, CheckWords, SettleWords, TrialWords, StateWords, CellWords, CommandWords, make, check, settle, run, explain, trial, state, cell, SplitWords, JoinWords, AsmWords, split, join, asm}
+use Rattle.rv_upgrade.specs.Upgrade.{blocked, upgraded}
+use Rattle.rv_upgrade.specs.Laws.{IsAcceptedToo}
+use Rattle.rv_tool.specs.CommandLine.{MakeWords, CheckWords, SettleWords, TrialWords, StateWords, CellWords, CommandWords, make, check, settle, run, explain, trial, state, cell, SplitWords, JoinWords, AsmWords, UpgradeWords, split, join, asm, upgrade}
 use Rattle.rv_tool.specs.Lines.{state_lines, cell_line}
-use Rattle.rv_tool.specs.Outcome.{asked, cell_text, state_text, tells}
+use Rattle.rv_tool.specs.Outcome.{asked, cell_text, renewed, state_text, tells, upgrade_done}
 use Rattle.rv_tool.specs.Parts.{part_name, parts_due}
 
 -- the file is the record of the program's run on the input, at a version and a shard size of its own
@@ -153,6 +155,21 @@ pub record Assembled (before after : ShelfView) (w : AsmWords) : Type 0 where
   pub file_is : IsExecutableOf source file
   pub written : IsWritten ((w.target, file) ∷ []) before after
 
+-- A file has an upgrade: it spells parts that nothing blocks, of which the steps and the bytes of the upgraded file are told. Where a program and an input accept the file, they accept the upgraded one too: its parts are the same but for the version, and so are the two lists of tuples.
+pub record HasUpgrade (w : UpgradeWords) (file : List ℕ) : Type 0 where
+  pub parts : Parts
+  pub spells : Spells parts file
+  pub free : blocked parts ≡ None
+  pub told : renewed w file (parse file) ≡ upgrade_done w file parts.header.steps
+  pub accepted : (elf input : List ℕ) (p : Parts) → judge sha_lanes elf input file ≡ Ok p → IsAcceptedToo sha_lanes elf input file p
+
+-- the upgraded file of the record alone is written
+pub record Upgraded (before after : ShelfView) (w : UpgradeWords) : Type 0 where
+  pub file : List ℕ
+  pub file_is : IsContents before.files w.file file
+  pub has : HasUpgrade w file
+  pub written : IsWritten ((w.target, upgraded file) ∷ []) before after
+
 -- The headline, of each command that succeeds.
 abbrev pub Headline : Option CommandWords → ShelfView → ShelfView → Type 0
 Headline (Some (make w)) before after = Made before after w
@@ -166,4 +183,5 @@ Headline (Some (cell w)) before after = CellTold before.files w
 Headline (Some (split w)) before after = Cut before after w
 Headline (Some (join w)) before after = JoinedParts before.files w
 Headline (Some (asm w)) before after = Assembled before after w
+Headline (Some (upgrade w)) before after = Upgraded before after w
 Headline None before after = ⊥

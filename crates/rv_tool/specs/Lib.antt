@@ -9,6 +9,7 @@ pub mod Judging
 pub mod Asking
 pub mod Assembling
 pub mod Splitting
+pub mod Upgrading
 pub mod Joining
 pub mod Making
 pub mod CheckOfMade

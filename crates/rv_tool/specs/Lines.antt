@@ -85,6 +85,10 @@ cell_line name seen = line (codes "cell " ++ name ++ codes " value=" ++ hex8 see
 abbrev pub split_line : ℕ → ℕ → List ℕ
 split_line parts bytes = line (codes "split" ++ field (codes "parts") parts ++ field (codes "bytes") bytes)
 
+-- the steps of an upgraded record, and its bytes
+abbrev pub upgraded_line : ℕ → ℕ → List ℕ
+upgraded_line steps bytes = line (codes "upgraded" ++ field (codes "steps") steps ++ field (codes "bytes") bytes)
+
 -- the words of a source, and the bytes of their executable
 abbrev pub assembled_line : ℕ → ℕ → List ℕ
 assembled_line words bytes = line (codes "assembled" ++ field (codes "words") words ++ field (codes "bytes") bytes)

@@ -27,12 +27,17 @@ use Rattle.rv_query.specs.Questions.{cell_answer, state_answer}
 use Rattle.rv_text.specs.Listing.{listing}
 use Rattle.rv_trial.specs.Trials.{ends_within, budget, trial as trial_told}
 use Rattle.rv_trial.specs.declared.summary.Trial.{Trial}
+use Rattle.rv_upgrade.specs.Upgrade.{blocked, upgraded}
+use Rattle.rv_upgrade.specs.declared.reasons.Blocked.{Blocked}
+use Rattle.rv_upgrade.specs.declared.reasons.Blocked.TheVariants as why
 use Rattle.rv_host.specs.Files.{Files}
 use Rattle.rv_plan.specs.Plan.{Outcome, Plan, read, answer, refuses, read_within, read_program, outcome_over}
 use Rattle.rv_plan.specs.declared.faults.Limited.TheVariants as limited
-use Rattle.rv_plan.specs.declared.faults.Fault.TheVariants.{Words, Budget, Limit, Step, Part, Memory, Assembly}
-use Rattle.rv_tool.specs.CommandLine.{MakeWords, CheckWords, SettleWords, RunWords, ExplainWords, TrialWords, StateWords, CellWords, CommandWords, make, check, settle, run, explain, trial, state, cell, command, SplitWords, JoinWords, AsmWords, split, join, asm}
-use Rattle.rv_tool.specs.Lines.{made_line, ran_line, accepted_line, refused_line, settled_line, collision_line, trial_line, state_lines, cell_line, split_line, assembled_line}
+use Rattle.rv_plan.specs.declared.faults.VersionFault.{VersionFault}
+use Rattle.rv_plan.specs.declared.faults.VersionFault.TheVariants as version
+use Rattle.rv_plan.specs.declared.faults.Fault.TheVariants.{Words, Budget, Limit, Version, Step, Part, Memory, Assembly}
+use Rattle.rv_tool.specs.CommandLine.{MakeWords, CheckWords, SettleWords, RunWords, ExplainWords, TrialWords, StateWords, CellWords, CommandWords, make, check, settle, run, explain, trial, state, cell, command, SplitWords, JoinWords, AsmWords, UpgradeWords, split, join, asm, upgrade}
+use Rattle.rv_tool.specs.Lines.{made_line, ran_line, accepted_line, refused_line, settled_line, collision_line, trial_line, state_lines, cell_line, split_line, assembled_line, upgraded_line}
 use Rattle.rv_plan.specs.declared.faults.PartFault.{PartFault}
 use Rattle.rv_tool.specs.Parts.{Joined, added, added_behind, begun, bytes_due, opened, part_name, parts_due, whole_of}
 use Rattle.rv_tool.specs.Differing.{least_differing}
@@ -160,6 +165,28 @@ assembled w symbols (Ok words) =
     let file = executable words in
     record { status = 0; text = assembly_listing symbols words ++ assembled_line (length words) (length file); writes = (w.target, file) ∷ [] }
 
+-- ---- upgrades
+
+-- the fault of a record that has no upgrade
+abbrev pub version_fault : Blocked → VersionFault
+version_fault why.New = version.New
+version_fault (why.Atomic word) = version.Atomic word
+
+-- what nothing blocks
+abbrev pub unless_blocked : Option Blocked → Outcome → Outcome
+unless_blocked (Some reason) o = refuses (Version (version_fault reason))
+unless_blocked None o = o
+
+-- the upgraded file is written, and its steps and bytes are told
+abbrev pub upgrade_done : UpgradeWords → List ℕ → ℕ → Outcome
+upgrade_done w file steps =
+    let new = upgraded file in record { status = 0; text = upgraded_line steps (length new); writes = (w.target, new) ∷ [] }
+
+-- upgrade writes the upgraded file of a file of good form that nothing blocks
+abbrev pub renewed : UpgradeWords → List ℕ → Result Parts Refusal → Outcome
+renewed w file (Err r) = denies (refused_line r)
+renewed w file (Ok p) = unless_blocked (blocked p) (upgrade_done w file p.header.steps)
+
 -- ---- all commands
 
 abbrev pub make_plan : MakeWords → List ℕ → List ℕ → Plan
@@ -195,6 +222,9 @@ split_plan w = read_within w.file RECORD_LIMIT limited.Record (λ file. answer (
 abbrev pub asm_plan : AsmWords → Plan
 asm_plan w = read_within w.source SOURCE_LIMIT limited.Source (λ source. answer (assembled w (symbols_of source) (assembly source)))
 
+abbrev pub upgrade_plan : UpgradeWords → Plan
+upgrade_plan w = read_within w.file RECORD_LIMIT limited.Record (λ file. answer (renewed w file (parse file)))
+
 abbrev pub plan_of : CommandWords → Plan
 plan_of (make w) = read_program w.elf w.input (make_plan w)
 plan_of (check w) = read_program w.elf w.input (check_plan w)
@@ -207,6 +237,7 @@ plan_of (cell w) = read_program w.elf w.input (question_plan w.file (cell_text w
 plan_of (split w) = split_plan w
 plan_of (join w) = read_program w.elf w.input (all_parts w)
 plan_of (asm w) = asm_plan w
+plan_of (upgrade w) = upgrade_plan w
 
 -- the plan of what the words spell
 abbrev pub plan : Option CommandWords → Plan

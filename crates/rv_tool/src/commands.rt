@@ -3,7 +3,7 @@
 ghost use Rattle.std.specs.Prelude.{map, string_bytes, IfSome};
 ghost use Rattle.std.specs.Int.{IsInRange};
 ghost use Rattle.rv_tool.specs.Commands.{HasRanges, IsCommand};
-ghost use Rattle.rv_tool.specs.CommandLine.{asm_command, cell_command, check_command, command, explain_command, join_command, make_command, run_command, settle_command, split_command, state_command, trial_command};
+ghost use Rattle.rv_tool.specs.CommandLine.{asm_command, cell_command, check_command, command, explain_command, join_command, make_command, run_command, settle_command, split_command, state_command, trial_command, upgrade_command};
 
 use crate::numbers::number;
 use crate::spelled_cells::cell;
@@ -24,6 +24,7 @@ pub enum Command<'a> {
     Split(Split<'a>),
     Join(Join<'a>),
     Asm(Asm<'a>),
+    Upgrade(Upgrade<'a>),
 }
 
 /// `make ELF INPUT RECORD WORKERS SHARD BUDGET`: writes the record of a run. `make2` does so for version 2.
@@ -155,6 +156,13 @@ pub struct Asm<'a> {
     pub elf: &'a str,
 }
 
+/// `upgrade OLD NEW`: writes the record of version 2 of the run that a record of version 1 states.
+#[derive(Clone, Copy, Debug)]
+pub struct Upgrade<'a> {
+    pub old: &'a str,
+    pub target: &'a str,
+}
+
 /// The command that the words spell. None where they are no command, or a number is misspelled or out of its range.
 pub fn parse(words: &[String]) -> Option<Command<'_>>
     ensures command { IsCommand (command (map string_bytes words.now)) result }
@@ -177,6 +185,7 @@ pub fn parse(words: &[String]) -> Option<Command<'_>>
         "split" => parse_split(arguments),
         "join" => parse_join(arguments),
         "asm" => parse_asm(arguments),
+        "upgrade" => parse_upgrade(arguments),
         _ => None,
     }
 }
@@ -358,5 +367,18 @@ fn parse_asm(arguments: &[String]) -> Option<Command<'_>>
     Some(Command::Asm(Asm {
         source: source.as_str(),
         elf: elf.as_str(),
+    }))
+}
+
+fn parse_upgrade(arguments: &[String]) -> Option<Command<'_>>
+    ensures command { IsCommand (upgrade_command (map string_bytes arguments.now)) result }
+    ensures ranges { IfSome result HasRanges }
+{
+    let [old, target] = arguments else {
+        return None;
+    };
+    Some(Command::Upgrade(Upgrade {
+        old: old.as_str(),
+        target: target.as_str(),
     }))
 }

@@ -155,6 +155,16 @@ pub fn split_line(alloc: Global, parts: u32, bytes: u64) -> Result<Text, NoMemor
     }
 }
 
+/// The line of a record that was upgraded, of so many steps and bytes.
+pub fn upgraded_line(alloc: Global, steps: u64, bytes: usize) -> Result<Text, NoMemory>
+    ensures { IfOk result (λ text. text ≡ lines.upgraded_line steps bytes) }
+{
+    match format!(in alloc; "upgraded steps={steps} bytes={bytes}\n") {
+        Ok(text) => Ok(Text::of(text)),
+        Err(_) => Err(NoMemory),
+    }
+}
+
 /// A text with the line of a source of so many words behind it, whose executable has so many bytes.
 pub fn assembled_lines(
     alloc: Global,

@@ -21,6 +21,7 @@ mod split;
 mod tests;
 mod top;
 mod trial;
+mod upgrade;
 
 use rv_host::{OpenGate, RealShelf, RealSink};
 use rv_plan::print_no_memory;

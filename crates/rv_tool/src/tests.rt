@@ -15,6 +15,7 @@ mod running;
 mod sharding;
 mod sweeping;
 mod trying;
+mod upgrading;
 
 use crate::{needs_team, tool, tool_one};
 use programs::PROGRAM;
@@ -126,6 +127,8 @@ fn words_that_are_no_command(rt: HostRuntime) -> Result<(), Fail> {
         "trial 4294967296 42",
         "asm source",
         "asm source target 1",
+        "upgrade record",
+        "upgrade record target 1",
     ];
     for line in lines {
         expect(&rt, line, &mut shelf, 2, "fault words\n")?;

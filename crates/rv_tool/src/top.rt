@@ -20,6 +20,7 @@ use crate::run::run;
 use crate::settle::settle;
 use crate::split::split;
 use crate::trial::trial;
+use crate::upgrade::upgrade;
 use rv_host::{Gate, Shelf, Sink};
 use rv_plan::{Fault, Told, tell};
 use std::alloc::Global;
@@ -42,7 +43,8 @@ pub fn needs_team(words: &[String]) -> bool
             | Command::Cell(_)
             | Command::Split(_)
             | Command::Join(_)
-            | Command::Asm(_),
+            | Command::Asm(_)
+            | Command::Upgrade(_),
         )
         | None => false,
     }
@@ -59,6 +61,7 @@ pub fn needs_team(words: &[String]) -> bool
 /// - 6: a file or the text couldn't be written
 /// - 7: want of memory
 /// - 8: a file, or what a run needs, is above its limit, or there are more parts than shards
+/// - 10: the record has no upgrade
 /// - 11: a part of a record has a fault
 /// - 12: the record has no such step
 /// - 13: a source of the assembler has a fault
@@ -124,6 +127,7 @@ fn perform_by_team<R: Threads + Wait + Sync, S: Shelf, G: Gate>(
         Command::Split(words) => split(alloc, words, shelf),
         Command::Join(words) => join(alloc, words, shelf),
         Command::Asm(words) => asm(alloc, words, shelf),
+        Command::Upgrade(words) => upgrade(alloc, words, shelf),
     }
 }
 
@@ -146,5 +150,6 @@ fn perform_alone<S: Shelf>(alloc: Global, asked: &Command<'_>, shelf: &mut S) ->
         Command::Split(words) => split(alloc, words, shelf),
         Command::Join(words) => join(alloc, words, shelf),
         Command::Asm(words) => asm(alloc, words, shelf),
+        Command::Upgrade(words) => upgrade(alloc, words, shelf),
     }
 }
