@@ -4,3 +4,4 @@ mod Fronts
 mod Plans
 mod Parts
 mod Running
+mod WordDigits

@@ -1,14 +1,15 @@
 //! Why a command ends without doing its work, with the status and the line of each cause.
 
-ghost use Rattle.std.specs.Prelude.{◌≡◌, IfOk, IsTrue, MatchOption, string_bytes};
+ghost use Rattle.std.specs.Prelude.{◌≡◌, ◌++◌, IfOk, IsTrue, MatchOption, OnOk, string_bytes};
 ghost use Rattle.rv_elf.specs.Faults.{number_of};
-ghost use Rattle.rv_plan.specs.Lines.{name_at, fault_names, assembly_line as assembly_line_of, elf_line as elf_line_of, kind_names, part_line as part_line_of, version_line};
+ghost use Rattle.rv_plan.specs.Lines.{name_at, fault_names, assembly_line as assembly_line_of, elf_line as elf_line_of, hex8, kind_names, part_line as part_line_of, version_line};
 ghost use Rattle.rv_plan.specs.Faults.{status_of, line_of, has_number, reason_of, what_of};
 ghost use Rattle.rv_plan.specs.declared.faults.VersionFault.TheVariants as version;
 
 use rv_base::{NoMemory, Text};
 use rv_elf::ElfFault;
 use std::alloc::{AllocError, Global};
+use std::fmt::Write;
 
 /// What is held to a limit.
 #[derive(Clone, Copy, Debug)]
@@ -154,7 +155,18 @@ fn elf_line(alloc: Global, fault: ElfFault) -> Result<String, AllocError>
 fn atomic_line(alloc: Global, word: u32) -> Result<String, AllocError>
     ensures { IfOk result (λ text. string_bytes text ≡ version_line (reason_of (version.Atomic word))) }
 {
-    format!(in alloc; "fault version atomic {word:08x}\n")
+    let mut line = String::new(alloc);
+    line.push_str("fault version atomic ")?;
+    push_hex8(&mut line, word)?;
+    line.push_str("\n")?;
+    Ok(line)
+}
+
+/// Eight hexadecimal digits in lower case.
+fn push_hex8(text: &mut String, n: u32) -> Result<(), AllocError>
+    ensures { OnOk result (string_bytes text.new ≡ string_bytes text.old ++ hex8 n) }
+{
+    write!(text, "{n:08x}")
 }
 
 fn part_line(alloc: Global, number: u32, fault: PartFault) -> Result<String, AllocError>
