@@ -1,5 +1,5 @@
 -- The promise of a call that tells how a plan ended, from how it ended and what was printed.
-use Rattle.std.proofs.Common.{◌≡◌, ◌≢◌, ◌⊎◌, inl, inr, ℕ, ◌≤◌, List, [], ◌++◌, Bool, true, false, ◌||◌, Option, Some, None, Ok, ◌==◌, ◌&&◌, slice_index, nat_lt, refl, sym, ◌∙◌, ap, subst, arith, option_map, length, if◌then◌else◌}
+use Rattle.std.proofs.Common.{◌≡◌, ◌≢◌, inl, inr, ℕ, ◌≤◌, List, [], ◌++◌, Bool, true, false, ◌||◌, Option, Some, None, Ok, ◌==◌, ◌&&◌, slice_index, nat_lt, refl, sym, ◌∙◌, ap, subst, arith, option_map, length, if◌then◌else◌}
 use Rattle.std.proofs.lemmas.Bool.{eqb-false, false≢true}
 use Rattle.rv_base.specs.declared.limits.TheConstants.{ELF_LIMIT, INPUT_LIMIT}
 use Rattle.rv_spec.specs.Elf.{first_fault}

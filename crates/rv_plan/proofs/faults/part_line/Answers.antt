@@ -1,4 +1,4 @@
-use Rattle.std.proofs.Common.{◌≡◌, ℕ, List, [], ◌∷◌, ◌++◌, ap, sym, ◌∙◌, decimal, append_assoc}
+use Rattle.std.proofs.Common.{ℕ, List, [], ◌∷◌, ◌++◌, ap, sym, ◌∙◌, decimal, append_assoc}
 use Rattle.std.specs.Prelude.{codes}
 use Rattle.rv_plan.specs.Lines.{part_line}
 use Rattle.rv_plan.proofs.faults.part_line.Goals as goal
