@@ -1,66 +1,46 @@
 -- What upgrade does, as its plan says, and what its success says.
-use Rattle.std.proofs.Common.{◌≡◌, ◌<◌, ℕ, List, [], ◌∷◌, ◌++◌, length, None, Some, Ok, Err, Option, Result, IfOk, option_map, refl, sym, ap, subst, ◌∙◌, arith, length-append}
-use Rattle.std.proofs.lemmas.Bool.{eqb-false}
+use Rattle.std.proofs.Common.{◌≡◌, ◌<◌, ℕ, List, [], ◌∷◌, ◌++◌, length, None, Ok, Err, Result, IfOk, option_map, sym, ap, subst, ◌∙◌, arith, length-append}
+use Rattle.std.specs.List.{flat_map}
 use Rattle.rv_base.specs.declared.layout.TheConstants.{VERSION_AT}
 use Rattle.rv_base.specs.declared.limits.TheConstants.{RECORD_LIMIT}
-use Rattle.rv_base.specs.declared.record.Refusal.{Refusal}
-use Rattle.rv_base.specs.declared.record.Verdict.TheVariants.{Refuse}
 use Rattle.rv_spec.specs.Words.{AreBytes}
 use Rattle.rv_spec.specs.Digest.{sha_lanes}
 use Rattle.rv_spec.specs.Grammar.{Spells}
-use Rattle.rv_spec.specs.Record.{Parts, file_bytes, header_bytes}
+use Rattle.rv_spec.specs.Record.{Parts, file_bytes, header_bytes, shard_bytes, table_bytes}
 use Rattle.rv_rules.specs.Verdict.{judge, parse}
 use Rattle.rv_file.proofs.Lemmas.{is-parsed, length-header_bytes, ok-is}
 use Rattle.rv_sound.specs.Accepted.{ReadsAccepted}
 use Rattle.rv_host.specs.Views.{ShelfView}
-use Rattle.rv_plan.specs.Plan.{answer, refuses, with_due}
-use Rattle.rv_plan.specs.Endings.{IsWritten, WriteFails}
+use Rattle.rv_plan.specs.Plan.{answer, with_due}
+use Rattle.rv_plan.specs.Endings.{IsWritten}
 use Rattle.rv_plan.specs.FileCalls.{Performs, PerformsBehind, ReadsWithin, Stops, Writes}
 use Rattle.rv_plan.specs.declared.faults.Fault.{Fault}
-use Rattle.rv_plan.specs.declared.faults.Fault.TheVariants.{Version}
 use Rattle.rv_plan.specs.declared.faults.Limited.TheVariants as limited
 use Rattle.rv_plan.specs.declared.told.Told.{Told}
 use Rattle.rv_plan.proofs.Lemmas.{performs-read, read-stops}
 use Rattle.rv_upgrade.specs.Upgrade.{blocked, upgraded}
 use Rattle.rv_upgrade.specs.Laws.{IsAcceptedToo, UpgradedIsAccepted}
-use Rattle.rv_upgrade.specs.declared.reasons.Blocked.{Blocked}
 use Rattle.rv_tool.specs.CommandLine.{UpgradeWords, upgrade}
 use Rattle.rv_tool.specs.Headline.{HasUpgrade, Upgraded}
-use Rattle.rv_tool.specs.Judging.{TellsOutcome}
 use Rattle.rv_tool.specs.Lines.{upgraded_line}
-use Rattle.rv_tool.specs.Outcome.{plan_of, renewed, told_verdict, unless_blocked, upgrade_done, version_fault}
+use Rattle.rv_tool.specs.Outcome.{plan_of, renewed, unless_blocked, upgrade_done}
 use Rattle.rv_tool.specs.Upgrading.{UpgradesFile}
-use Rattle.rv_tool.proofs.Checking.{answered}
 
 -- ---- the file
 
 -- it has the byte of its version
 pub has-version : (p : Parts) (file : List ℕ) → Spells p file → VERSION_AT < length file
 unfolding file_bytes
-has-version p file s = omega (arith, ap length s.is, length-append (header_bytes p.header) _, length-header_bytes p.header s.fit.header)
+has-version p file s =
+    let rest : List ℕ = p.output ++ flat_map shard_bytes p.shards ++ table_bytes p.table in
+    let is : file ≡ header_bytes p.header ++ rest = s.is in
+    omega (arith, ap length is, length-append (header_bytes p.header) rest, length-header_bytes p.header s.fit.header)
 
--- a file that is refused, or for which there is no memory, changes no file
-pub upgrade-refused : (w : UpgradeWords) (file : List ℕ) (s : ShelfView) (f : Refusal) (r : Result Told Fault) → parse file ≡ Err f → TellsOutcome (told_verdict (Refuse f)) r → UpgradesFile w file s s r
-upgrade-refused w file s f r broken says = record {
-  performs = answered (told_verdict (Refuse f)) (renewed w file (parse file)) s r (sym (ap (renewed w file) broken)) refl says;
-  upgrades = none r says;
-}
-  where
-    none : (r : Result Told Fault) → TellsOutcome (told_verdict (Refuse f)) r → IfOk r (λ told. told.status ≡ 0 → HasUpgrade w file × IsWritten ((w.target, upgraded file) ∷ []) s s)
-    none (Err e) says = tt
-    none (Ok told) says = λ zero. absurd (eqb-false 1 0 refl (sym says.0 ∙ zero))
+-- what the plan says of a file of good form that nothing blocks
+renewed-is : (w : UpgradeWords) (file : List ℕ) (p : Parts) → Spells p file → blocked p ≡ None → renewed w file (parse file) ≡ upgrade_done w file p.header.steps
+renewed-is w file p spells free = ap (renewed w file) (is-parsed file p spells) ∙ ap (λ b. unless_blocked b (upgrade_done w file p.header.steps)) free
 
--- what the plan says of a file of good form
-renewed-is : (w : UpgradeWords) (file : List ℕ) (p : Parts) (reason : Option Blocked) → Spells p file → blocked p ≡ reason → renewed w file (parse file) ≡ unless_blocked reason (upgrade_done w file p.header.steps)
-renewed-is w file p reason spells is = ap (renewed w file) (is-parsed file p spells) ∙ ap (λ b. unless_blocked b (upgrade_done w file p.header.steps)) is
-
-pub upgrade-blocked : (w : UpgradeWords) (file : List ℕ) (s : ShelfView) (p : Parts) (reason : Blocked) → Spells p file → blocked p ≡ Some reason → UpgradesFile w file s s (Err (Version (version_fault reason)))
-upgrade-blocked w file s p reason spells is = record {
-  performs = (record { files = refl; writes = λ _. refl }, sym (renewed-is w file p (Some reason) spells is));
-  upgrades = tt;
-}
-
--- a file that a program and an input accept is the spelling of these parts, and is accepted as upgraded
+-- a program and an input that accept it accept these parts of it, and the upgraded file
 accepted-too : (file : List ℕ) (p : Parts) → ((elf input : List ℕ) → ReadsAccepted sha_lanes elf input) → UpgradedIsAccepted → AreBytes file → Spells p file → blocked p ≡ None
     → (elf input : List ℕ) (q : Parts) → judge sha_lanes elf input file ≡ Ok q → IsAcceptedToo sha_lanes elf input file q
 accepted-too file p reads law bytes spells free elf input q judged =
@@ -68,36 +48,15 @@ accepted-too file p reads law bytes spells free elf input q judged =
     let same : q ≡ p = ok-is q p (sym (is-parsed file q other) ∙ is-parsed file p spells) in
     law sha_lanes elf input file q bytes judged (ap blocked same ∙ free)
 
-pub has-upgrade : (w : UpgradeWords) (file : List ℕ) (p : Parts) → ((elf input : List ℕ) → ReadsAccepted sha_lanes elf input) → UpgradedIsAccepted → AreBytes file → Spells p file → blocked p ≡ None → HasUpgrade w file
-has-upgrade w file p reads law bytes spells free = record {
-  parts = p;
-  spells = spells;
-  free = free;
-  told = renewed-is w file p None spells free;
-  accepted = accepted-too file p reads law bytes spells free;
-}
-
-module _ (w : UpgradeWords) (file bytes : List ℕ) (s s' : ShelfView) (has : HasUpgrade w file) (same : bytes ≡ upgraded file) where
-  pub upgrade-written : (told : Told) → told.status ≡ 0 → told.text ≡ upgraded_line has.parts.header.steps (length bytes) → Writes ((w.target, bytes) ∷ []) s s' (Ok tt) → UpgradesFile w file s s' (Ok told)
-  upgrade-written told status text wrote =
-      let written = subst (λ b. IsWritten ((w.target, b) ∷ []) s s') same wrote in
-      record {
-        performs = (
-          upgrade_done w file has.parts.header.steps,
-          sym has.told,
-          status,
-          text ∙ ap (λ (b : List ℕ). upgraded_line has.parts.header.steps (length b)) same,
-          written,
-        );
-        upgrades = λ _. (has, written);
-      }
-
-  pub upgrade-torn : (f : Fault) → Writes ((w.target, bytes) ∷ []) s s' (Err f) → UpgradesFile w file s s' (Err f)
-  upgrade-torn f wrote = record {
-    performs = subst (λ e. PerformsBehind (answer (renewed w file (parse file))) s s' (Err e)) (sym wrote.0)
-        (upgrade_done w file has.parts.header.steps, sym has.told, subst (λ b. WriteFails ((w.target, b) ∷ []) s s') same wrote.1);
-    upgrades = tt;
-  }
+pub upgrade-written : (w : UpgradeWords) (file bytes : List ℕ) (p : Parts) (s s' : ShelfView) (told : Told) → ((elf input : List ℕ) → ReadsAccepted sha_lanes elf input) → UpgradedIsAccepted → AreBytes file → Spells p file → blocked p ≡ None
+    → bytes ≡ upgraded file → told.status ≡ 0 → told.text ≡ upgraded_line p.header.steps (length bytes) → Writes ((w.target, bytes) ∷ []) s s' (Ok tt) → UpgradesFile w file s s' (Ok told)
+upgrade-written w file bytes p s s' told reads law are spells free same status text wrote =
+    let written = subst (λ b. IsWritten ((w.target, b) ∷ []) s s') same wrote in
+    let is = renewed-is w file p spells free in
+    record {
+      performs = (upgrade_done w file p.header.steps, sym is, status, text ∙ ap (λ (b : List ℕ). upgraded_line p.header.steps (length b)) same, written);
+      upgrades = λ _. (record { parts = p; spells = spells; free = free; told = is; accepted = accepted-too file p reads law are spells free }, written);
+    }
 
 -- ---- the command
 
