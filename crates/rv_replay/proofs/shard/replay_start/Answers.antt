@@ -26,7 +26,7 @@ make_rows-requires-clause-number g c = c.in_ok-making.ensures.start.number
 pub make_rows-requires-clause-made : goal.make_rows-requires-clause-made
 make_rows-requires-clause-made g c =
     let b = c.in_ok-making.ensures in
-    own-made g.L.Lanes.lanes c.args.image.now c.args.input.now c.args.start.now.step c.args.start.now.rows 0 c.in_ok-making.making c.new.result b.image b.input_is (b.none_made g.L.Lanes.lanes c.new.result (c.new.ensures g.L.Lanes.lanes))
+    own-made g.L.Lanes.lanes c.args.image.now c.args.input.now c.args.start.now.step c.args.start.now.rows 0 c.in_ok-making.making c.new-pairing.result b.image b.input_is (b.none_made g.L.Lanes.lanes c.new-pairing.result (c.new-pairing.ensures g.L.Lanes.lanes))
 
 pub finish-requires-clause-start : goal.finish-requires-clause-start
 finish-requires-clause-start g c =
