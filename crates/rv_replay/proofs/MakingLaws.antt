@@ -25,6 +25,7 @@ use Rattle.rv_isa.specs.Hart.{TakesStepFrom, TakesTimes}
 use Rattle.rv_isa.specs.HartState.{HartState, StandsFor, IsTimed}
 use Rattle.rv_isa.specs.Ranges.{Rises}
 use Rattle.rv_isa.proofs.Lemmas.{step-slots-rise}
+use Rattle.rv_pairs.specs.declared.pairing.Pairing.{Pairing}
 use Rattle.rv_pairs.specs.Covers.{Covers}
 use Rattle.rv_point.specs.Replays.{IsReplaying, MakesRow}
 use Rattle.rv_point.proofs.Lemmas.{rows-more, replays-step}
@@ -60,8 +61,8 @@ module _ (i : Image) (input : List ℕ) where
 
   -- ---- before the first row
 
-  pub begun : (lanes : Lanes) (k n : ℕ) (made : Making) → IsReplaying i input k n 0 made.hart → length made.bytes.items ≡ HEAD_BYTES → Covers lanes made.pairing [] [] → made.put ≡ 0 → HasMade lanes i input k n 0 made
-  begun lanes k n made replaying size covers put =
+  pub begun : (lanes : Lanes) (k n : ℕ) (made : Making) (pairing : Pairing) → IsReplaying i input k n 0 made.hart → length made.bytes.items ≡ HEAD_BYTES → Covers lanes pairing [] [] → made.put ≡ 0 → HasMade lanes i input k n 0 made pairing
+  begun lanes k n made pairing replaying size covers put =
       let to : k ≡ k + 0 = omega arith in
       record {
         replaying = replaying;
@@ -75,35 +76,35 @@ module _ (i : Image) (input : List ℕ) where
 
   -- ---- one row more
 
-  module _ (lanes : Lanes) (k n m : ℕ) (old new : Making) (s : Stepped) (made : HasMade lanes i input k n m old) (makes : MakesRow i input k n m s new.hart) where
+  module _ (lanes : Lanes) (k n m : ℕ) (old new : Making) (paired pairs : Pairing) (s : Stepped) (made : HasMade lanes i input k n m old paired) (makes : MakesRow i input k n m s new.hart) where
     pub made-more : new.bytes.items ≡ old.bytes.items ++ row_bytes (row_view s.row)
-        → ((rs ws : List Tuple) → Covers lanes old.pairing rs ws → Covers lanes new.pairing (rs ++ map tuple_read (map (event (k + m)) s.row.accesses.items)) (ws ++ map tuple_written (map (event (k + m)) s.row.accesses.items)))
-        → new.put ≡ old.put + s.put → HasMade lanes i input k n (m + 1) new
-    made-more bytes pairs put =
+        → ((rs ws : List Tuple) → Covers lanes paired rs ws → Covers lanes pairs (rs ++ map tuple_read (map (event (k + m)) s.row.accesses.items)) (ws ++ map tuple_written (map (event (k + m)) s.row.accesses.items)))
+        → new.put ≡ old.put + s.put → HasMade lanes i input k n (m + 1) new pairs
+    made-more bytes more put =
         let r : Row = row i input (k + m) in
         let before : List Event = events k (rows i input k m) in
         let read : map tuple_read before ++ map tuple_read (map (event (k + m)) s.row.accesses.items) ≡ map tuple_read (events k (rows i input k (m + 1))) =
         ap (λ (x : Row). map tuple_read before ++ map tuple_read (map (event (k + m)) x.accesses)) makes.is ∙ sym (map-append tuple_read before (map (event (k + m)) r.accesses)) ∙ ap (map tuple_read) (sym (events-more k m)) in
         let written : map tuple_written before ++ map tuple_written (map (event (k + m)) s.row.accesses.items) ≡ map tuple_written (events k (rows i input k (m + 1))) =
         ap (λ (x : Row). map tuple_written before ++ map tuple_written (map (event (k + m)) x.accesses)) makes.is ∙ sym (map-append tuple_written before (map (event (k + m)) r.accesses)) ∙ ap (map tuple_written) (sym (events-more k m)) in
-        let covers : Covers lanes new.pairing (map tuple_read before ++ map tuple_read (map (event (k + m)) s.row.accesses.items)) (map tuple_written before ++ map tuple_written (map (event (k + m)) s.row.accesses.items)) =
-        pairs (map tuple_read before) (map tuple_written before) made.covers in
+        let covers : Covers lanes pairs (map tuple_read before ++ map tuple_read (map (event (k + m)) s.row.accesses.items)) (map tuple_written before ++ map tuple_written (map (event (k + m)) s.row.accesses.items)) =
+        more (map tuple_read before) (map tuple_written before) made.covers in
         record {
           replaying = makes.replaying;
           room = made.room;
           size = made.size;
           bytes = bytes ∙ (λ t. made.bytes t ++ row_bytes (makes.is t)) ∙ append_assoc made.room (flat_map row_bytes (rows i input k m)) (row_bytes r) ∙ ap (λ (bs : List ℕ). made.room ++ bs) (sym (bytes-more k m));
-          covers = subst (λ (ts : List Tuple). Covers lanes new.pairing ts (map tuple_written (events k (rows i input k (m + 1))))) read
-              (subst (λ (ts : List Tuple). Covers lanes new.pairing (map tuple_read before ++ map tuple_read (map (event (k + m)) s.row.accesses.items)) ts) written covers);
+          covers = subst (λ (ts : List Tuple). Covers lanes pairs ts (map tuple_written (events k (rows i input k (m + 1))))) read
+              (subst (λ (ts : List Tuple). Covers lanes pairs (map tuple_read before ++ map tuple_read (map (event (k + m)) s.row.accesses.items)) ts) written covers);
           put = omega (arith, put, made.put, makes.put);
           few = omega (arith, put, made.few, makes.few);
         }
 
   -- the step of the hart makes the next row
-  pub row-made : (lanes : Lanes) (k n m number : ℕ) (old : Making) (new : HartState) (s : Stepped) → IsProgram i → AreBytes input → number ≡ k + m → m < n → HasMade lanes i input k n m old
+  pub row-made : (lanes : Lanes) (k n m number : ℕ) (old : Making) (paired : Pairing) (new : HartState) (s : Stepped) → IsProgram i → AreBytes input → number ≡ k + m → m < n → HasMade lanes i input k n m old paired
       → new.cells.image ≡ old.hart.cells.image → new.input ≡ old.hart.input → ((t : State) → StandsFor old.hart t → TakesStepFrom old.hart.input t s new)
       → ((t : State) (before : List Tuple) → StandsFor old.hart t → IsTimed old.hart before number → TakesTimes old.hart.input t before number s new) → MakesRow i input k n m s new
-  row-made lanes k n m number old new s program bytes is less made image same takes times =
+  row-made lanes k n m number old paired new s program bytes is less made image same takes times =
       replays-step i input k n m old.hart new s program bytes less made.replaying image same takes
       (λ t before stands timed. subst (λ x. TakesTimes old.hart.input t before x s new) is (times t before stands (subst (IsTimed old.hart before) (sym is) timed)))
 
@@ -140,7 +141,7 @@ drop-front : (xs ys : List ℕ) (n : ℕ) → length xs ≡ n → drop n (xs ++ 
 drop-front [] ys n e = ap (λ m. drop m ys) (sym e)
 drop-front (x ∷ xs) ys n e = ap (λ m. drop m (x ∷ xs ++ ys)) (sym e) ∙ drop-front xs ys (length xs) refl
 
-module _ (lanes : Lanes) (i : Image) (input : List ℕ) (s : ShardStart) (of : IsStartOf i input s) (m : Making) (made : HasMade lanes i input s.step s.rows s.rows m) where
+module _ (lanes : Lanes) (i : Image) (input : List ℕ) (s : ShardStart) (of : IsStartOf i input s) (m : Making) (pairing : Pairing) (made : HasMade lanes i input s.step s.rows s.rows m pairing) where
   abbrev rs : List Row
   rs = rows i input s.step s.rows
 
@@ -179,9 +180,9 @@ module _ (lanes : Lanes) (i : Image) (input : List ℕ) (s : ShardStart) (of : I
 
 -- ---- the same, of the hart's own program and input
 
-pub own-made : (lanes : Lanes) (i : Image) (input : List ℕ) (k n m : ℕ) (made : Making) → made.hart.cells.image ≡ i → made.hart.input ≡ input → HasMade lanes i input k n m made → HasMade lanes made.hart.cells.image made.hart.input k n m made
-own-made lanes i input k n m made image same h =
-    subst (λ (a : Image). HasMade lanes a made.hart.input k n m made) (sym image) (subst (λ (b : List ℕ). HasMade lanes i b k n m made) (sym same) h)
+pub own-made : (lanes : Lanes) (i : Image) (input : List ℕ) (k n m : ℕ) (made : Making) (p : Pairing) → made.hart.cells.image ≡ i → made.hart.input ≡ input → HasMade lanes i input k n m made p → HasMade lanes made.hart.cells.image made.hart.input k n m made p
+own-made lanes i input k n m made p image same h =
+    subst (λ (a : Image). HasMade lanes a made.hart.input k n m made p) (sym image) (subst (λ (b : List ℕ). HasMade lanes i b k n m made p) (sym same) h)
 
 pub own-start : (i : Image) (input : List ℕ) (s : ShardStart) (made : Making) → made.hart.cells.image ≡ i → made.hart.input ≡ input → IsStartOf i input s → IsStartOf made.hart.cells.image made.hart.input s
 own-start i input s made image same h = subst (λ (a : Image). IsStartOf a made.hart.input s) (sym image) (subst (λ (b : List ℕ). IsStartOf i b s) (sym same) h)

@@ -11,31 +11,34 @@ use rv_isa::Hart;
 use rv_pairs::Pairing;
 use rv_row::write_row;
 
-/// A shard in the making: the hart, the tuples that were read and written, the bytes, and how many bytes of output
-/// were put.
+/// A shard in the making: the hart, the bytes, and how many bytes of output were put.
 #[derive(Drop)]
 pub(crate) struct Making<'a> {
     pub hart: Hart<'a>,
-    pub pairing: Pairing,
     pub bytes: Vec<u8>,
     pub put: u64,
 }
 
 impl Making<'_> {
-    /// Takes steps from a number on, and appends their rows.
-    pub fn make_rows<L: Lanes>(&mut self, lanes: &L, first: u64, count: u32) -> Result<(), NoMemory>
+    /// Takes steps from a number on, appends their rows, and pairs what they read and write.
+    pub fn make_rows<L: Lanes>(
+        &mut self,
+        lanes: &L,
+        pairing: &mut Pairing,
+        first: u64,
+        count: u32,
+    ) -> Result<(), NoMemory>
         requires program { IsProgram self.old.hart.cells.image }
         requires bytes { AreBytes self.old.hart.input }
         requires number { first + count ≤ 2 ^ 32 }
-        requires made { HasMade L.lanes self.old.hart.cells.image self.old.hart.input first count 0 self.old }
-        ensures { OnOk result (HasMade L.lanes self.old.hart.cells.image self.old.hart.input first count count self.new) }
+        requires made { HasMade L.lanes self.old.hart.cells.image self.old.hart.input first count 0 self.old pairing.old }
+        ensures { OnOk result (HasMade L.lanes self.old.hart.cells.image self.old.hart.input first count count self.new pairing.new) }
     {
         for done in 0..count {
             let step = first + u64::from(done);
             let taken = self.hart.step(step)?;
             write_row(&taken.row, &mut self.bytes)?;
-            self.pairing
-                .accesses(lanes, step, taken.row.accesses.as_slice());
+            pairing.accesses(lanes, step, taken.row.accesses.as_slice());
             self.put += u64::from(taken.put);
         }
         Ok(())

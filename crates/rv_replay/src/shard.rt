@@ -33,9 +33,11 @@ pub fn replay_start<L: Lanes>(
     ensures made { IfOk result (λ p. p ≡ piece_of L.lanes image.now input.now start.now.index start.now.step start.now.rows) }
     ensures shard { (size j : ℕ) → start.now ≡ shard_start image.now input.now size j → IfOk result (λ p. piece_view p ≡ piece L.lanes image.now input.now size j) }
 {
+    // it is large, and so made where it stays
+    let mut pairing = Pairing::new();
     let mut making = begin(alloc, image, input, start)?;
-    making.make_rows(lanes, start.step, start.rows)?;
-    finish(making, start, lanes)
+    making.make_rows(lanes, &mut pairing, start.step, start.rows)?;
+    finish(making, &pairing, start, lanes)
 }
 
 /// A shard before its first row, with room for its head.
@@ -54,16 +56,20 @@ fn begin<'a>(
     bytes.extend_from_slice(&[0; HEAD_BYTES])?;
     Ok(Making {
         hart,
-        pairing: Pairing::new(),
         bytes,
         put: 0,
     })
 }
 
 /// Writes the head before the rows and the digests behind them.
-fn finish<L: Lanes>(making: Making<'_>, start: &ShardStart, lanes: &L) -> Result<Piece, NoMemory>
+fn finish<L: Lanes>(
+    making: Making<'_>,
+    pairing: &Pairing,
+    start: &ShardStart,
+    lanes: &L,
+) -> Result<Piece, NoMemory>
     requires start { IsStartOf making.hart.cells.image making.hart.input start.now }
-    requires made { HasMade L.lanes making.hart.cells.image making.hart.input start.now.step start.now.rows start.now.rows making }
+    requires made { HasMade L.lanes making.hart.cells.image making.hart.input start.now.step start.now.rows start.now.rows making pairing.now }
     ensures { IfOk result (λ p. p ≡ piece_of L.lanes making.entry.hart.cells.image making.entry.hart.input start.now.index start.now.step start.now.rows) }
 {
     let head = ShardHead {
@@ -79,7 +85,7 @@ fn finish<L: Lanes>(making: Making<'_>, start: &ShardStart, lanes: &L) -> Result
         input: making.hart.position(),
         output: start.place.output + making.put,
     };
-    let (reads, writes) = making.pairing.digests(lanes);
+    let (reads, writes) = pairing.digests(lanes);
     let bytes = spell(making.bytes, &head, &reads, &writes)?;
     Ok(Piece {
         index: start.index,

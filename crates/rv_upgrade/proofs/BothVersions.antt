@@ -66,6 +66,11 @@ length-none : {A : Type 0} (xs : List A) → length xs ≡ 0 → xs ≡ []
 length-none [] e = refl
 length-none (x ∷ xs) e = absurd (omega (arith, e))
 
+-- no more rows than steps are left
+pub rows-most : (h : Header) (i : ℕ) (ss : List Shard) → ShardsFit h i ss → length (rows_in ss) ≤ h.steps - i * h.size
+rows-most h i [] fit = omega arith
+rows-most h i (s ∷ ss) fit = omega (arith, length-append s.rows (rows_in ss), rows-most h (i + 1) ss fit.1, fit.0.count, fit.0.rows)
+
 module _ (h : Header) (input output : List ℕ) (first_version : h.version ≡ 1) (word : ℕ) (fine : h.end.kind ≡ ILLEGAL_WORD → decode_atomic word ≡ None) where
   abbrev pub h2 : Header
   h2 = record h { version = 2 }
@@ -155,15 +160,11 @@ module _ (h : Header) (input output : List ℕ) (first_version : h.version ≡ 1
   through-append version [] ys p = refl
   through-append version (x ∷ xs) ys p = through-append version xs ys (place_after version x p input)
 
-  rows-most : (i : ℕ) (ss : List Shard) → ShardsFit h i ss → length (rows_in ss) ≤ h.steps - i * h.size
-  rows-most i [] fit = omega arith
-  rows-most i (s ∷ ss) fit = omega (arith, length-append s.rows (rows_in ss), rows-most (i + 1) ss fit.1, fit.0.count, fit.0.rows)
-
   pub shards-hold-too : (lanes : Lanes) (ss : List Shard) (i : ℕ) (p : Place) → EndWith (rows_in ss) → ShardsFit h i ss → ShardsHold lanes h input output i p ss
       → ShardsHold lanes h2 input output i p ss × (place_through 2 input p (rows_in ss) ≡ place_through h.version input p (rows_in ss))
   shards-hold-too lanes [] i p ends fits holds = (tt, refl)
   shards-hold-too lanes (s ∷ ss) i p ends fits holds =
-      let rows = rows-hold-too s.rows (rows_in ss) (i * h.size) p (rows-most i (s ∷ ss) fits) ends holds.0.rows in
+      let rows = rows-hold-too s.rows (rows_in ss) (i * h.size) p (rows-most h i (s ∷ ss) fits) ends holds.0.rows in
       let behind : EndWith (rows_in ss) = λ xs r is. ends (s.rows ++ xs) r (ap (λ (l : List Row). s.rows ++ l) is ∙ sym (append_assoc s.rows xs (r ∷ []))) in
       let more = shards-hold-too lanes ss (i + 1) (place_through h.version input p s.rows) behind fits.1 holds.1 in (
         (

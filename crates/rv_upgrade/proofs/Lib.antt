@@ -1,3 +1,7 @@
-mod LastRow
 mod BothVersions
+mod CountingLanes
+mod LastRow
+mod RecordTuples
+mod SpelledBytes
 mod UpgradedParts
+mod UpgradedRecord

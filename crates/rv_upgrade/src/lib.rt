@@ -9,7 +9,7 @@ mod tests;
 mod upgrading;
 
 pub use blocking::blocked;
-pub use laws::upgraded_is_accepted;
+pub use laws::{upgraded_is_accepted, upgraded_is_record_or_collision, upgraded_is_the_record};
 pub use reasons::Blocked;
 pub use rv_base::{Bytes, NoMemory};
 pub use rv_file::Parsed;

@@ -26,7 +26,7 @@ make_rows-requires-clause-number g c = c.in_ok-making.ensures.start.number
 pub make_rows-requires-clause-made : goal.make_rows-requires-clause-made
 make_rows-requires-clause-made g c =
     let b = c.in_ok-making.ensures in
-    own-made g.L.Lanes.lanes c.args.image.now c.args.input.now c.args.start.now.step c.args.start.now.rows 0 c.in_ok-making.making b.image b.input_is (b.none_made g.L.Lanes.lanes)
+    own-made g.L.Lanes.lanes c.args.image.now c.args.input.now c.args.start.now.step c.args.start.now.rows 0 c.in_ok-making.making c.new-pairing.result b.image b.input_is (b.none_made g.L.Lanes.lanes c.new-pairing.result (c.new-pairing.ensures g.L.Lanes.lanes))
 
 pub finish-requires-clause-start : goal.finish-requires-clause-start
 finish-requires-clause-start g c =
@@ -38,7 +38,7 @@ pub finish-requires-clause-made : goal.finish-requires-clause-made
 finish-requires-clause-made g c =
     let m = c.in_ok-making.making in
     let h = c.in_ok-make_rows.ensures in
-    own-made g.L.Lanes.lanes m.hart.cells.image m.hart.input c.args.start.now.step c.args.start.now.rows c.args.start.now.rows c.make_rows.new.self h.replaying.image h.replaying.input_is h
+    own-made g.L.Lanes.lanes m.hart.cells.image m.hart.input c.args.start.now.step c.args.start.now.rows c.args.start.now.rows c.make_rows.new.self c.make_rows.new.pairing h.replaying.image h.replaying.input_is h
 
 pub returns-clause-made : goal.returns-clause-made
 returns-clause-made g c =
