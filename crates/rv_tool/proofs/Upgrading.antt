@@ -19,7 +19,7 @@ use Rattle.rv_plan.specs.declared.faults.Limited.TheVariants as limited
 use Rattle.rv_plan.specs.declared.told.Told.{Told}
 use Rattle.rv_plan.proofs.Lemmas.{performs-read, read-stops}
 use Rattle.rv_upgrade.specs.Upgrade.{blocked, upgraded}
-use Rattle.rv_upgrade.specs.Laws.{IsAcceptedToo, UpgradedIsAccepted}
+use Rattle.rv_upgrade.specs.Laws.{IsAcceptedToo, UpgradedIsAccepted, UpgradedIsTheRecord}
 use Rattle.rv_tool.specs.CommandLine.{UpgradeWords, upgrade}
 use Rattle.rv_tool.specs.Headline.{HasUpgrade, Upgraded}
 use Rattle.rv_tool.specs.Lines.{upgraded_line}
@@ -48,14 +48,14 @@ accepted-too file p reads law bytes spells free elf input q judged =
     let same : q ≡ p = ok-is q p (sym (is-parsed file q other) ∙ is-parsed file p spells) in
     law sha_lanes elf input file q bytes judged (ap blocked same ∙ free)
 
-pub upgrade-written : (w : UpgradeWords) (file bytes : List ℕ) (p : Parts) (s s' : ShelfView) (told : Told) → ((elf input : List ℕ) → ReadsAccepted sha_lanes elf input) → UpgradedIsAccepted → AreBytes file → Spells p file → blocked p ≡ None
+pub upgrade-written : (w : UpgradeWords) (file bytes : List ℕ) (p : Parts) (s s' : ShelfView) (told : Told) → ((elf input : List ℕ) → ReadsAccepted sha_lanes elf input) → UpgradedIsAccepted → UpgradedIsTheRecord → AreBytes file → Spells p file → blocked p ≡ None
     → bytes ≡ upgraded file → told.status ≡ 0 → told.text ≡ upgraded_line p.header.steps (length bytes) → Writes ((w.target, bytes) ∷ []) s s' (Ok tt) → UpgradesFile w file s s' (Ok told)
-upgrade-written w file bytes p s s' told reads law are spells free same status text wrote =
+upgrade-written w file bytes p s s' told reads law record-law are spells free same status text wrote =
     let written = subst (λ b. IsWritten ((w.target, b) ∷ []) s s') same wrote in
     let is = renewed-is w file p spells free in
     record {
       performs = (upgrade_done w file p.header.steps, sym is, status, text ∙ ap (λ (b : List ℕ). upgraded_line p.header.steps (length b)) same, written);
-      upgrades = λ _. (record { parts = p; spells = spells; free = free; told = is; accepted = accepted-too file p reads law are spells free }, written);
+      upgrades = λ _. (record { parts = p; spells = spells; free = free; told = is; accepted = accepted-too file p reads law are spells free; of_run = λ elf input size n e of_elf of_input is-record. record-law sha_lanes elf input file p size n e of_elf of_input spells free is-record }, written);
     }
 
 -- ---- the command

@@ -4,6 +4,7 @@ use Rattle.std.specs.Int.{div_ceil}
 use Rattle.rv_base.specs.declared.limits.TheConstants.{RECORD_LIMIT}
 use Rattle.rv_base.specs.declared.record.End.{End}
 use Rattle.rv_base.specs.declared.record.Verdict.TheVariants.{Accept}
+use Rattle.rv_spec.specs.Words.{AreBytes}
 use Rattle.rv_spec.specs.Digest.{sha_lanes}
 use Rattle.rv_spec.specs.Elf.{first_fault, image}
 use Rattle.rv_spec.specs.Grammar.{Spells}
@@ -155,13 +156,14 @@ pub record Assembled (before after : ShelfView) (w : AsmWords) : Type 0 where
   pub file_is : IsExecutableOf source file
   pub written : IsWritten ((w.target, file) ∷ []) before after
 
--- A file has an upgrade: it spells parts that nothing blocks, of which the steps and the bytes of the upgraded file are told. Where a program and an input accept the file, they accept the upgraded one too: its parts are the same but for the version, and so are the two lists of tuples.
+-- A file has an upgrade: it spells parts that nothing blocks, of which the steps and the bytes of the upgraded file are told. Where a program and an input accept the file, they accept the upgraded one too: its parts are the same but for the version, and so are the two lists of tuples. Where it is the version 1 record of a run, the upgraded one is the version 2 record of that run.
 pub record HasUpgrade (w : UpgradeWords) (file : List ℕ) : Type 0 where
   pub parts : Parts
   pub spells : Spells parts file
   pub free : blocked parts ≡ None
   pub told : renewed w file (parse file) ≡ upgrade_done w file parts.header.steps
   pub accepted : (elf input : List ℕ) (p : Parts) → judge sha_lanes elf input file ≡ Ok p → IsAcceptedToo sha_lanes elf input file p
+  pub of_run : (elf input : List ℕ) (size n : ℕ) (e : End) → AreBytes elf → AreBytes input → IsRecord sha_lanes 1 elf input size n e file → IsRecord sha_lanes 2 elf input size n e (upgraded file)
 
 -- the upgraded file of the record alone is written
 pub record Upgraded (before after : ShelfView) (w : UpgradeWords) : Type 0 where

@@ -17,7 +17,7 @@ use rv_file::parse;
 use rv_host::Shelf;
 use rv_plan::{DueFile, Fault, Limited, Told, VersionFault, read_within, write_files};
 use rv_sound::reading;
-use rv_upgrade::{Blocked, blocked, upgraded_is_accepted};
+use rv_upgrade::{Blocked, blocked, upgraded_is_accepted, upgraded_is_the_record};
 use std::alloc::Global;
 
 /// Writes the upgraded file of a record of good form that nothing blocks, and tells of it. It holds the record and its copy. All memory is taken
@@ -41,6 +41,7 @@ fn upgrade_file<S: Shelf>(
 {
     reading();
     upgraded_is_accepted();
+    upgraded_is_the_record();
     let parsed = match parse(file) {
         Ok(parsed) => parsed,
         Err(refusal) => return tell_verdict(alloc, Verdict::Refuse(refusal)),

@@ -16,7 +16,7 @@ returns g c =
     let p = c.in-Ok.parsed in
     let bytes : List ℕ = c.list-2.result.now ++ [] in
     let listed : c.list.result.now ≡ bytes = c.list.ensures ∙ sym c.list-2.ensures ∙ sym (append-nil c.list-2.result.now) in
-    upgrade-written (upgrade_words c.args.words.now) file bytes p _ _ _ (c.reading.ensures sha_lanes) c.upgraded_is_accepted.ensures (bytes-are file (λ i. omega (arith, c.type_inv.file i))) c.in-Ok.ensures.spelled
+    upgrade-written (upgrade_words c.args.words.now) file bytes p _ _ _ (c.reading.ensures sha_lanes) c.upgraded_is_accepted.ensures c.upgraded_is_the_record.ensures (bytes-are file (λ i. omega (arith, c.type_inv.file i))) c.in-Ok.ensures.spelled
     (sym c.blocked.ensures ∙ c.in_default.is) (append-nil c.list-2.result.now ∙ c.list-2.ensures ∙ c.in-Ok-upgrade.ensures) refl
     (c.in-Ok-upgraded_line.ensures ∙ ap (λ (h : Header). upgraded_line h.steps (length c.list.result.now)) c.header-steps.ensures ∙ ap (λ (b : List ℕ). upgraded_line p.header.steps (length b)) listed)
     c.in_ok-write_files.ensures
