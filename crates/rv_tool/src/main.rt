@@ -1,33 +1,14 @@
 //! Fuzakhi: records the run of a RISC-V program, so that others can check it.
 #![tactic(auto)]
 
-mod answer_lines;
-mod asking;
-mod asm;
-mod check;
-mod commands;
-mod explain;
-mod join;
-mod judging;
-mod lines;
-mod make;
-mod numbers;
-mod recording;
-mod run;
-mod settle;
-mod spelled_cells;
-mod split;
 #[cfg(test)]
 mod tests;
-mod top;
-mod trial;
-mod upgrade;
 
+pub use rv_commands::{needs_team, tool, tool_one};
 use rv_host::{OpenGate, RealShelf, RealSink};
 use rv_plan::print_no_memory;
 use std::process::ExitCode;
 use std::{env, io};
-pub use top::{needs_team, tool, tool_one};
 
 /// The status where the system doesn't give the words of the command line as text.
 const NO_WORDS: u8 = 20;

@@ -1,8 +1,8 @@
 //! `check` of what `make` made.
 
 ghost use Rattle.std.specs.Prelude.{None, map, string_bytes};
-ghost use Rattle.rv_tool.specs.CheckOfMade.{MadeIsAccepted};
-ghost use Rattle.rv_tool.specs.CommandLine.{command};
+ghost use Rattle.rv_commands.specs.CheckOfMade.{MadeIsAccepted};
+ghost use Rattle.rv_commands.specs.CommandLine.{command};
 
 use super::programs::{PROGRAM, of_code};
 use super::running::RESERVING;

@@ -1,7 +1,7 @@
 //! Each call of a shelf or a sink that can fail, in turn.
 
 ghost use Rattle.std.specs.Prelude.{◌≡◌, ◌≢◌, false, map, string_bytes};
-ghost use Rattle.rv_tool.specs.CommandLine.{command, is_teamwork};
+ghost use Rattle.rv_commands.specs.CommandLine.{command, is_teamwork};
 
 use super::programs::{PROGRAM, RECORD, of_code, spelled};
 use super::running::{GREETED, GREETING};

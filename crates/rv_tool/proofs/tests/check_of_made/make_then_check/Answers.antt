@@ -1,6 +1,6 @@
 use Rattle.std.proofs.Common.{map, string_bytes, refl, arith}
-use Rattle.rv_tool.specs.CommandLine.{command}
-use Rattle.rv_tool.proofs.CheckOfMade.{check-of-made}
+use Rattle.rv_commands.specs.CommandLine.{command}
+use Rattle.rv_commands.proofs.Lemmas.{check-of-made}
 use Rattle.rv_tool.proofs.tests.check_of_made.make_then_check.Goals as goal
 
 pub returns : goal.returns

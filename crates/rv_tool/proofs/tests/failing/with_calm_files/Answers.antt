@@ -1,6 +1,6 @@
 use Rattle.std.proofs.Common.{map, string_bytes, arith}
-use Rattle.rv_tool.specs.CommandLine.{command}
-use Rattle.rv_tool.proofs.Unread.{calm-answer}
+use Rattle.rv_commands.specs.CommandLine.{command}
+use Rattle.rv_commands.proofs.Lemmas.{calm-answer}
 use Rattle.rv_tool.proofs.tests.failing.with_calm_files.Goals as goal
 
 pub returns : goal.returns

@@ -1,0 +1,21 @@
+mod AnswerText
+mod Arguments
+mod Asked
+mod Assembling
+mod CheckOfMade
+mod Checking
+mod Differing
+mod Examples
+mod Explaining
+mod Fronts
+mod Joining
+mod Judged
+pub mod Lemmas
+mod Listed
+mod Making
+mod Running
+mod Spelling
+mod Splitting
+mod Trying
+mod Unread
+mod Upgrading
