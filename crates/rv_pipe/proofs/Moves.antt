@@ -1,5 +1,5 @@
 -- Each step keeps the rule of the pipe's queue.
-use Rattle.std.proofs.Common.{◌≡◌, ◌≢◌, ℕ, zero, suc, ◌+◌, ◌-◌, ◌<◌, ◌≤◌, Bool, true, false, true≢false, List, [], ◌∷◌, ◌++◌, length, map, set, sym, refl, ap, ◌∙◌, subst, ⊎_elim, arith}
+use Rattle.std.proofs.Common.{◌≡◌, ◌≢◌, ℕ, zero, suc, ◌+◌, ◌-◌, ◌<◌, ◌≤◌, Bool, true, false, ◌&&◌, true≢false, List, [], ◌∷◌, ◌++◌, length, map, set, sym, refl, ap, ◌∙◌, subst, ⊎_elim, arith}
 use Rattle.std.specs.Prelude.{IsTrue, nat_lt, sum_by, ◌==◌}
 use Rattle.std.specs.List.{AllByRecursion}
 use Rattle.std.proofs.lemmas.Bool.Decides.{nat_tests}
@@ -76,11 +76,11 @@ begins due waiting = record {
 
 pub pushes : (due : ShardStart → Type 0) (waiting n p : ℕ) (v : Hand) (x : ShardStart) → v.walks ≡ true → 0 < v.parts → x.index ≡ v.pushed → due x → n ≡ waiting → Pushes (Kept due waiting) n p v x (λ w. w ≡ pushed_one v)
 unfolding permitted pipe_after
-pushes due waiting n p v x walks some next is cap items views room k at =
+pushes due waiting n p v x walks held next is full items views room k at =
     let w : Hand = pushed_one v in
     let s : Pipe = k.pipe in
     let mine : IsHandAt s.pushed p v = k.hands p v at in
-    let few : length s.queue < waiting = omega (arith, room, cap, ap length k.queue, length-map items) in
+    let few : length s.queue < waiting = omega (arith, room, full, ap length k.queue, length-map items) in
     let ok : IsTrue (permitted waiting s Push) = (let t : nat_lt (length s.queue) waiting ≡ true = grind (arith, nat_tests) in t) in
     let same : length views ≡ length (set views p w) = sym (length-set views p w) in
     (
@@ -102,13 +102,13 @@ pushes due waiting n p v x walks some next is cap items views room k at =
 
 pub takes : (due : ShardStart → Type 0) (waiting p : ℕ) (v : Hand) → 0 < v.parts → Pops (Kept due waiting) p v (λ x w. due x × (w ≡ took_one v x.index))
 unfolding permitted pipe_after
-takes due waiting p v some x items views k at =
+takes due waiting p v held x items views k at =
     let w : Hand = took_one v x.index in
     let s : Pipe = k.pipe in
     let mine : IsHandAt s.pushed p v = k.hands p v at in
     let lt : p < length s.taken = omega (arith, there views p v at, k.workers) in
-    let full : 0 < length s.queue = omega (arith, ap length k.queue, length-map (x ∷ items)) in
-    let ok : IsTrue (permitted waiting s (Take p)) = both (length s.queue) p (length s.taken) full lt in
+    let waits : 0 < length s.queue = omega (arith, ap length k.queue, length-map (x ∷ items)) in
+    let ok : IsTrue (permitted waiting s (Take p)) = both (length s.queue) p (length s.taken) waits lt in
     let same : length views ≡ length (set views p w) = sym (length-set views p w) in
     let t : Pipe = record { pushed = s.pushed; queue = indices items; taken = take_for s.taken p x.index } in
     let is : pipe_after s (Take p) ≡ t = ap (front_taken s.pushed s.taken p) k.queue in
@@ -124,17 +124,17 @@ takes due waiting p v some x items views k at =
         workers = length-take_for s.taken p x.index ∙ k.workers ∙ same;
         taken = λ y. omega (arith, k.taken y, sum-at (took y) views p v w at, sum_by_push (λ (z : ℕ). one (z == y)) v.taken x.index, taken-adds y x.index s.taken p lt);
         parts = omega (arith, k.parts, sum-at part views p v w at);
-        hands = hands-set (IsHandAt s.pushed) views p w (record { first = mine.first; count = mine.count; idle = λ none. absurd (omega (arith, none, some)) })
+        hands = hands-set (IsHandAt s.pushed) views p w (record { first = mine.first; count = mine.count; idle = λ none. absurd (omega (arith, none, held)) })
             (λ j u other e. k.hands j u e);
       },
       (k.each.0, refl),
     )
   where
     both : (a p b : ℕ) → 0 < a → p < b → (nat_lt 0 a && nat_lt p b) ≡ true
-    both a p b some lt = let l : nat_lt 0 a ≡ true = grind (arith, nat_tests) in let r : nat_lt p b ≡ true = grind (arith, nat_tests) in ap (λ c. c && nat_lt p b) l ∙ r
+    both a p b held lt = let l : nat_lt 0 a ≡ true = grind (arith, nat_tests) in let r : nat_lt p b ≡ true = grind (arith, nat_tests) in ap (λ c. c && nat_lt p b) l ∙ r
 
 pub forks : (due : ShardStart → Type 0) (waiting p : ℕ) (v : Hand) → 1 < v.parts → Forks (Kept due waiting) p v (last_part v) (other_parts v)
-forks due waiting p v some items views k at =
+forks due waiting p v held items views k at =
     let l : Hand = last_part v in
     let r : Hand = other_parts v in
     let vs : List Hand = set views p l in
@@ -150,7 +150,7 @@ forks due waiting p v some items views k at =
       each = k.each;
       workers = length-snoc s.taken [] ∙ ap suc k.workers ∙ longer;
       taken = λ y. omega (arith, k.taken y, sum-at (took y) views p v l at, sum_by_push (took y) vs r, sum_by_push (times y) s.taken []);
-      parts = omega (arith, k.parts, sum-at part views p v l at, sum_by_push part vs r, some);
+      parts = omega (arith, k.parts, sum-at part views p v l at, sum_by_push part vs r, held);
       hands = λ j u e. ⊎_elim (λ (x : get_elem? vs j ≡ some u). old j u x)
           (λ (is : r ≡ u). subst (IsHandAt s.pushed j) is (record { first = λ t. absurd (true≢false (sym t)); count = λ t. absurd (true≢false (sym t)); idle = λ _. refl })) (at_snoc vs r u j e);
     }

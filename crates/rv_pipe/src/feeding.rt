@@ -1,6 +1,6 @@
 //! The walk, whose starts go to the workers.
 
-ghost use Rattle.std.specs.Prelude.{◌≡◌, ◌<◌, true, IfOk, IfErr};
+ghost use Rattle.std.specs.Prelude.{◌≡◌, true, [], IfOk, IfErr};
 ghost use Rattle.crossbeam_queue.specs.Passes.{view, IsPassOf, ruled_capacity};
 ghost use Rattle.rv_point.specs.declared.start.ShardStart.{ShardStart as StartOf};
 ghost use Rattle.rv_point.specs.PointsState.{HasNoSurvey};

@@ -1,7 +1,7 @@
 use Rattle.std.proofs.Common.{◌≡◌, true}
 use Rattle.crossbeam_queue.specs.Passes.{view, IsPassOf}
 use Rattle.rv_point.specs.Walk.{IsSameWalk}
-use Rattle.rv_pipe.proofs.Taking.{Makes}
+use Rattle.rv_pipe.specs.Took.{Makes}
 use Rattle.rv_pipe.proofs.feeding.walk_run.Given as goal
 
 abbrev pub invariant-loop : goal.invariant-loop

@@ -1,7 +1,7 @@
 use Rattle.std.proofs.Common.{◌≡◌, true}
 use Rattle.crossbeam_queue.specs.Passes.{view, IsPassOf}
 use Rattle.rv_base.specs.declared.limits.TheConstants.{WORKERS_LIMIT}
-use Rattle.rv_pipe.proofs.Taking.{Makes}
+use Rattle.rv_pipe.specs.Took.{Makes}
 use Rattle.rv_pipe.proofs.piped.drain.Given as goal
 
 abbrev pub invariant-loop : goal.invariant-loop

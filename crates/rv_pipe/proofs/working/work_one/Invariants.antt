@@ -1,6 +1,6 @@
 use Rattle.std.proofs.Common.{◌≡◌, false}
 use Rattle.crossbeam_queue.specs.Passes.{view, IsPassOf}
-use Rattle.rv_pipe.proofs.Taking.{Makes}
+use Rattle.rv_pipe.specs.Took.{Makes}
 use Rattle.rv_pipe.proofs.working.work_one.Given as goal
 
 abbrev pub invariant-loop : goal.invariant-loop
