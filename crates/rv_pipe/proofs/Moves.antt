@@ -155,6 +155,9 @@ forks due waiting p v held items views k at =
           (λ (is : r ≡ u). subst (IsHandAt s.pushed j) is (record { first = λ t. absurd (true≢false (sym t)); count = λ t. absurd (true≢false (sym t)); idle = λ _. refl })) (at_snoc vs r u j e);
     }
 
+pub forks-whole : (due : ShardStart → Type 0) (waiting p : ℕ) (v : Hand) → v ≡ whole_hand → Forks (Kept due waiting) p v (last_part v) (other_parts v)
+forks-whole due waiting p v is = forks due waiting p v (omega (arith, ap part is))
+
 pub merges : (due : ShardStart → Type 0) (waiting p : ℕ) (v : Hand) (other : ℕ) (o : Hand) → Merges (Kept due waiting) p v other o (gathered v o) spent_hand
 merges due waiting p v other o items views k at two at' =
     let b : Hand = gathered v o in

@@ -1,5 +1,5 @@
 -- What a worker has made, where it takes one start more or takes in what another did.
-use Rattle.std.proofs.Common.{◌≡◌, ℕ, ◌+◌, Bool, false, List, [], ◌∷◌, ◌++◌, map, sym, refl, ap, ◌∙◌}
+use Rattle.std.proofs.Common.{◌≡◌, ℕ, ◌+◌, Bool, false, List, [], ◌∷◌, ◌++◌, map, sym, ap, ◌∙◌, subst}
 use Rattle.std.proofs.lemmas.List.{map-append}
 use Rattle.rv_book.specs.declared.task.Piece.{Piece}
 use Rattle.rv_pipe.specs.declared.view.Hand.{Hand}
@@ -21,3 +21,7 @@ makes-both piece walks parts more pushed v o w ps qs rs a b took are =
       known = took ∙ (λ t. let u : Hand = a.known t in let y : Hand = b.known t in hand u.walks (u.parts + y.parts) u.pushed (v.taken ++ o.taken)) ∙ ap (hand walks (parts + more) pushed) (sym is);
       made = are ∙ (λ t. a.made t ++ b.made t) ∙ sym (map-append piece v.taken o.taken) ∙ ap (map piece) (sym is);
     }
+
+-- the pass itself says how many were pushed
+pub makes-own : (piece : ℕ → Piece) (walks : Bool) (parts pushed : ℕ) (v : Hand) (ps : List Piece) → Makes piece walks parts pushed v ps → Makes piece walks parts v.pushed v ps
+makes-own piece walks parts pushed v ps h = subst (λ m. Makes piece walks parts m v ps) (sym (ap (λ (u : Hand). u.pushed) h.known)) h

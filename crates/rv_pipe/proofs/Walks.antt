@@ -6,6 +6,7 @@ use Rattle.std.proofs.lemmas.Bool.Decides.{nat_tests}
 use Rattle.rv_base.specs.declared.limits.TheConstants.{SHARD_SIZE_LIMIT}
 use Rattle.rv_base.specs.declared.record.End.{End}
 use Rattle.rv_spec.specs.Elf.{Image}
+use Rattle.rv_spec.specs.Digest.{Lanes}
 use Rattle.rv_spec.specs.Run.{EndsIn}
 use Rattle.rv_point.specs.declared.fault.RunFault.{RunFault}
 use Rattle.rv_point.specs.declared.fault.RunFault.TheVariants as fault
@@ -16,6 +17,7 @@ use Rattle.rv_point.specs.PointsState.{HasNoSurvey}
 use Rattle.rv_point.specs.Start.{HasShard, IsStart, shard_start}
 use Rattle.rv_point.specs.Walk.{HasGivenAll, IsSameWalk, IsWhole}
 use Rattle.rv_point.specs.WalkState.{WalkState}
+use Rattle.rv_replay.specs.Piece.{piece_of, shard_piece}
 use Rattle.rv_pipe.specs.Due.{IsDue}
 
 -- a fault of the walk is why there is no survey
@@ -78,3 +80,7 @@ next-due i input size budget given x range n =
 -- and what is due is the start of a shard
 pub due-start : (i : Image) (input : List ℕ) (size : ℕ) (x : ShardStart) → IsDue i input size x → IsStart i input x
 due-start i input size x d = (size, x.index, d.size_within, d.few, d.has, d.is)
+
+-- its rows are those of the piece of its shard
+pub piece-due : (lanes : Lanes) (i : Image) (input : List ℕ) (size : ℕ) (x : ShardStart) → IsDue i input size x → piece_of lanes i input x.index x.step x.rows ≡ shard_piece lanes i input size x.index
+piece-due lanes i input size x d = ap (λ (y : ShardStart). piece_of lanes i input x.index y.step y.rows) d.is
