@@ -15,7 +15,7 @@ use Rattle.rv_point.specs.declared.walk.Whole.{Whole}
 use Rattle.rv_point.specs.Course.{HasFault, IsNextStart}
 use Rattle.rv_point.specs.PointsState.{HasNoSurvey}
 use Rattle.rv_point.specs.Start.{HasShard, IsStart, shard_start}
-use Rattle.rv_point.specs.Walk.{HasGivenAll, IsSameWalk, IsWhole}
+use Rattle.rv_point.specs.Walk.{GivesNext, HasGivenAll, IsSameWalk, IsWhole}
 use Rattle.rv_point.specs.WalkState.{WalkState}
 use Rattle.rv_replay.specs.Piece.{piece_of, shard_piece}
 use Rattle.rv_pipe.specs.Due.{IsDue}
@@ -65,6 +65,10 @@ fault-of u w f s h = no-survey u.image u.input u.size u.budget w.given f (subst 
 
 pub next-of : (u w : WalkState) (x : ShardStart) → IsSameWalk u w → IsNextStart w.image w.input w.size w.budget w.given x → IsNextStart u.image u.input u.size u.budget w.given x
 next-of u w x s h = subst (λ (v : WalkState). IsNextStart v.image v.input v.size v.budget v.given x) (same-state u w s) h
+
+-- what the walk gives next, of the run that it began with
+pub gives-start : (u w x : WalkState) (s : ShardStart) (due : ShardStart → Type 0) → IsSameWalk u w → GivesNext w x (Some s) → ((given : ℕ) (y : ShardStart) → IsNextStart u.image u.input u.size u.budget given y → due y) → (s.index ≡ w.given) × due s
+gives-start u w x s due same g dues = (ap (λ (y : ShardStart). y.index) g.0.is, dues w.given s (next-of u w s same g.0))
 
 -- a next start is due
 pub next-due : (i : Image) (input : List ℕ) (size budget given : ℕ) (x : ShardStart) → IsInRange 1 SHARD_SIZE_LIMIT size → IsNextStart i input size budget given x → IsDue i input size x

@@ -8,10 +8,10 @@ ghost use Rattle.rv_book.specs.declared.task.Piece.{Piece as PieceOf};
 use rv_book::Piece;
 
 /// Puts pieces into the order of their indices.
-pub fn sort_pieces(pieces: &mut [Piece])
+pub fn sort_pieces(pieces: &mut Vec<Piece>)
     ensures { (piece : ℕ → PieceOf) (n : ℕ) (taken : List ℕ)
-        → pieces.old ≡ map piece taken → ((i : ℕ) → (piece i).index ≡ i) → ((x : ℕ) → times x taken ≡ one (nat_lt x n))
-        → pieces.new ≡ map piece (range_with_len 0 n) }
+        → pieces.old.items ≡ map piece taken → ((i : ℕ) → (piece i).index ≡ i) → ((x : ℕ) → times x taken ≡ one (nat_lt x n))
+        → pieces.new.items ≡ map piece (range_with_len 0 n) }
 {
     pieces.sort_unstable_by_key(|piece| piece.index);
 }

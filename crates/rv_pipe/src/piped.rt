@@ -106,12 +106,15 @@ pub fn pipe<L: Lanes + Sync, G: Gate, R: Threads + Wait + Sync>(
         size,
         lanes,
     };
-    let (whole, pieces) =
-        pipe_run::<Brand, Walk<'_>, Shards<'_, L>, G, R>(rt, alloc, walk, &maker, workers, waiting, gate)?;
-    Ok(Piped {
-        whole,
-        pieces: Pieces::of(pieces),
-    })
+    match pipe_run::<Brand, Walk<'_>, Shards<'_, L>, G, R>(
+        rt, alloc, walk, &maker, workers, waiting, gate,
+    ) {
+        Ok((whole, pieces)) => Ok(Piped {
+            whole,
+            pieces: Pieces::of(pieces),
+        }),
+        Err(fault) => Err(fault),
+    }
 }
 
 /// Walks a run and makes the pieces of its shards by workers.
