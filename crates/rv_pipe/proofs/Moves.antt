@@ -82,8 +82,7 @@ pushes due waiting n p v x walks held next is full items views room k at =
     let mine : IsHandAt s.pushed p v = k.hands p v at in
     let few : length s.queue < waiting = omega (arith, room, full, ap length k.queue, length-map items) in
     let ok : IsTrue (permitted waiting s Push) = (let t : nat_lt (length s.queue) waiting ≡ true = grind (arith, nat_tests) in t) in
-    let same : length views ≡ length (set views p w) = sym (length-set views p w) in
-    (
+    let same : length views ≡ length (set views p w) = sym (length-set views p w) in (
       w,
       record {
         events = k.events ++ Push ∷ [];
@@ -112,8 +111,7 @@ takes due waiting p v held x items views k at =
     let same : length views ≡ length (set views p w) = sym (length-set views p w) in
     let t : Pipe = record { pushed = s.pushed; queue = indices items; taken = take_for s.taken p x.index } in
     let is : pipe_after s (Take p) ≡ t = ap (front_taken s.pushed s.taken p) k.queue in
-    let led : Leads waiting (opened (length views)) (k.events ++ Take p ∷ []) t = subst (Leads waiting (opened (length views)) (k.events ++ Take p ∷ [])) is (leads-more waiting (opened (length views)) s k.events (Take p) k.reached ok) in
-    (
+    let led : Leads waiting (opened (length views)) (k.events ++ Take p ∷ []) t = subst (Leads waiting (opened (length views)) (k.events ++ Take p ∷ [])) is (leads-more waiting (opened (length views)) s k.events (Take p) k.reached ok) in (
       w,
       record {
         events = k.events ++ Take p ∷ [];

@@ -75,6 +75,7 @@ sorted-all a (suc n) (p ∷ ps) up all =
         by false e t f = grind (arith, nat_tests)
         by true e true f = absurd (omega (arith, h, ap one e, ap one f))
         by true e false f = absurd (omega (arith, h, ap one e, ap one f))
+
     upper : (a i : ℕ) → (a < i → counts a (p ∷ ps) ≡ 0) → counts a (p ∷ ps) + one (nat_lt a a) ≡ one (nat_lt a (a + suc n)) → i ≤ a
     upper a i none h = by (nat_lt a i) refl
       where
@@ -85,6 +86,7 @@ sorted-all a (suc n) (p ∷ ps) up all =
             let l : one (nat_lt a a) ≡ 0 = grind (arith, nat_tests) in
             let r : one (nat_lt a (a + suc n)) ≡ 1 = grind (arith, nat_tests) in
             absurd (omega (arith, h, l, r, none lt))
+
     left : (x : ℕ) → p.index ≡ a → counts x (p ∷ ps) + one (nat_lt x a) ≡ one (nat_lt x (a + suc n)) → counts x ps + one (nat_lt x (a + 1)) ≡ one (nat_lt x ((a + 1) + n))
     left x is h =
         let here : one (p.index == x) ≡ one (a == x) = ap (λ m. one (m == x)) is in
@@ -116,7 +118,7 @@ module _ (piece : ℕ → Piece) (numbered : (i : ℕ) → (piece i).index ≡ i
       let after : AllByRecursion P ys = recursion_from_All P ys (All-permutation P xs ys moved (All-from_recursion P xs before)) in
       let count : (x : ℕ) → counts x ys ≡ one (nat_lt x n) = λ x. sum_by-IsPermutation (at x) xs ys moved ∙ ap (counts x) are ∙ counts-taken x taken ∙ each x in
       let all : AreAll 0 n ys = λ x. (
-        let zero-less : one (nat_lt x 0) ≡ 0 = grind (arith, nat_tests) in
-        let same : one (nat_lt x (0 + n)) ≡ one (nat_lt x n) = ap (λ m. one (nat_lt x m)) (let e : 0 + n ≡ n = omega arith in e) in
-        omega (arith, count x, zero-less, same)) in
+      let zero-less : one (nat_lt x 0) ≡ 0 = grind (arith, nat_tests) in
+      let same : one (nat_lt x (0 + n)) ≡ one (nat_lt x n) = ap (λ m. one (nat_lt x m)) (let e : 0 + n ≡ n = omega arith in e) in
+      omega (arith, count x, zero-less, same)) in
       by-index ys after ∙ ap (map piece) (sorted-all 0 n ys up all)

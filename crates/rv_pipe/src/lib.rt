@@ -11,12 +11,11 @@ mod maker;
 mod order;
 mod piped;
 mod rules;
+#[cfg(test)]
+mod tests;
 mod view;
 mod walking;
 mod working;
-
-#[cfg(test)]
-mod tests;
 
 pub use event::PipeEvent;
 pub use piped::{Pieces, Piped, pipe};

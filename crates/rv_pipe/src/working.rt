@@ -80,7 +80,19 @@ pub fn work_all<J: Run + Send + Sync, P: Maker, G: Gate, R: Threads + Wait + Syn
             requires due { (s : StartOf) → J.due s → P.takes maker.now s }
             ensures pass { IfOk result (λ t. IsPassOf line.entry.now t.pass) }
             ensures made { IfOk result (HasMade (P.piece maker.entry.now) false (view rest).parts 0) }
-        { work_all(rt, alloc, maker, line, is_over, gate, worker + 1, others - 1, rest) },
+        {
+            work_all(
+                rt,
+                alloc,
+                maker,
+                line,
+                is_over,
+                gate,
+                worker + 1,
+                others - 1,
+                rest,
+            )
+        },
         || -> Result<Took, NoMemory>
             requires pass { IsPassOf line.now pass }
             requires view { view pass ≡ worker_hand 1 }
