@@ -1,5 +1,5 @@
 -- Each step keeps the rule of the pipe's queue.
-use Rattle.std.proofs.Common.{◌≡◌, ◌≢◌, ℕ, zero, suc, ◌+◌, ◌-◌, ◌<◌, ◌≤◌, Bool, true, false, ◌&&◌, true≢false, List, [], ◌∷◌, ◌++◌, length, map, set, sym, refl, ap, ◌∙◌, subst, ⊎_elim, arith}
+use Rattle.std.proofs.Common.{◌≡◌, ◌≢◌, ℕ, zero, suc, ◌+◌, ◌<◌, true, ◌&&◌, true≢false, List, [], ◌∷◌, ◌++◌, length, set, sym, refl, ap, ◌∙◌, subst, ⊎_elim, arith}
 use Rattle.std.specs.Prelude.{IsTrue, nat_lt, sum_by, ◌==◌}
 use Rattle.std.specs.List.{AllByRecursion}
 use Rattle.std.proofs.lemmas.Bool.Decides.{nat_tests}
@@ -12,7 +12,6 @@ use Rattle.crossbeam_queue.proofs.Lists.{at_set, at_snoc}
 use Rattle.rv_base.specs.declared.limits.TheConstants.{WORKERS_LIMIT}
 use Rattle.rv_book.specs.BoardLaws.{one, times}
 use Rattle.rv_point.specs.declared.start.ShardStart.{ShardStart}
-use Rattle.rv_pipe.specs.declared.event.PipeEvent.{PipeEvent}
 use Rattle.rv_pipe.specs.declared.event.PipeEvent.TheVariants.{Push, Take}
 use Rattle.rv_pipe.specs.declared.view.Hand.{Hand}
 use Rattle.rv_pipe.specs.Hands.{whole_hand, spent_hand, pushed_one, took_one, last_part, other_parts, gathered}

@@ -1,5 +1,5 @@
 -- What the passes of the pipe's queue know, and what their steps make of it.
-use Rattle.std.specs.Prelude.{ℕ, ◌+◌, ◌-◌, Bool, true, false, List, [], ◌∷◌, ◌++◌, sum_by}
+use Rattle.std.specs.Prelude.{ℕ, ◌+◌, ◌-◌, Bool, true, false, List, [], ◌∷◌, ◌++◌}
 use Rattle.rv_base.specs.declared.limits.TheConstants.{WORKERS_LIMIT}
 use Rattle.rv_pipe.specs.declared.view.Hand.{Hand}
 

@@ -1,11 +1,7 @@
 -- What the walk gives back, and what comes of the whole.
-use Rattle.std.specs.Prelude.{◌≡◌, ℕ, true, List, map}
-use Rattle.std.specs.List.{range_with_len}
-use Rattle.rv_spec.specs.Elf.{Image}
-use Rattle.rv_spec.specs.Digest.{Lanes}
+use Rattle.std.specs.Prelude.{ℕ, true}
 use Rattle.rv_book.specs.declared.task.Piece.{Piece}
 use Rattle.rv_point.specs.declared.start.ShardStart.{ShardStart}
-use Rattle.rv_point.specs.declared.walk.Whole.{Whole}
 use Rattle.rv_point.specs.Course.{IsNextStart}
 use Rattle.rv_point.specs.Walk.{IsWhole}
 use Rattle.rv_point.specs.WalkState.{WalkState}

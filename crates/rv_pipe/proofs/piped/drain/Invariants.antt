@@ -1,4 +1,4 @@
-use Rattle.std.proofs.Common.{◌≡◌, true}
+use Rattle.std.proofs.Common.{true}
 use Rattle.crossbeam_queue.specs.Passes.{view, IsPassOf}
 use Rattle.rv_base.specs.declared.limits.TheConstants.{WORKERS_LIMIT}
 use Rattle.rv_pipe.specs.Took.{Makes}

@@ -1,4 +1,4 @@
-use Rattle.std.proofs.Common.{◌≡◌, false}
+use Rattle.std.proofs.Common.{false}
 use Rattle.crossbeam_queue.specs.Passes.{view, IsPassOf}
 use Rattle.rv_pipe.specs.Took.{Makes}
 use Rattle.rv_pipe.proofs.working.work_one.Given as goal
