@@ -22,7 +22,7 @@ kept : (waiting : ℕ) (P : Pipe → Type 0) → ((s : Pipe) (e : PipeEvent) →
 kept waiting P step s [] t p l = subst P (sym l) p
 kept waiting P step s (e ∷ es) t p l = kept waiting P step (pipe_after s e) es t (step s e p l.0) l.1
 
-and-true : (a b : Bool) → (a && b) ≡ true → (a ≡ true) × (b ≡ true)
+pub and-true : (a b : Bool) → (a && b) ≡ true → (a ≡ true) × (b ≡ true)
 and-true true b h = (refl, h)
 and-true false b h = absurd (true≢false (sym h))
 

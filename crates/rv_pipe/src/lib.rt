@@ -1,8 +1,21 @@
-//! The pipe through which the starts of a run's shards go from the walk over the run to the workers that replay
-//! them, as a machine, with its law.
+//! Pipelined making: a run is walked over while workers replay its shards. The starts of the shards go from the
+//! walk to the workers through a pipe, which is also here as a machine, with its law.
 #![tactic(auto)]
 
 mod event;
+mod feeding;
+mod gathering;
 pub mod laws;
+mod line;
+mod maker;
+mod order;
+mod piped;
+mod rules;
+#[cfg(test)]
+mod tests;
+mod view;
+mod walking;
+mod working;
 
 pub use event::PipeEvent;
+pub use piped::{Pieces, Piped, pipe};
