@@ -32,9 +32,10 @@ use Rattle.rv_commands.specs.Upgrading.{UpgradesFile}
 pub has-version : (p : Parts) (file : List ℕ) → Spells p file → VERSION_AT < length file
 unfolding file_bytes
 has-version p file s =
-    let rest : List ℕ = p.output ++ flat_map shard_bytes p.shards ++ table_bytes p.table in
-    let is : file ≡ header_bytes p.header ++ rest = s.is in
-    omega (arith, ap length is, length-append (header_bytes p.header) rest, length-header_bytes p.header s.fit.header)
+    let front : List ℕ = header_bytes p.header ++ p.output in
+    let body : List ℕ = front ++ flat_map shard_bytes p.shards in
+    let is : file ≡ body ++ table_bytes p.table = s.is in
+    omega (arith, ap length is, length-append body (table_bytes p.table), length-append front (flat_map shard_bytes p.shards), length-append (header_bytes p.header) p.output, length-header_bytes p.header s.fit.header)
 
 -- what the plan says of a file of good form that nothing blocks
 renewed-is : (w : UpgradeWords) (file : List ℕ) (p : Parts) → Spells p file → blocked p ≡ None → renewed w file (parse file) ≡ upgrade_done w file p.header.steps
