@@ -22,7 +22,7 @@ use Rattle.rv_judge.specs.declared.phases.Machine.{Machine}
 use Rattle.rv_judge.specs.declared.phases.Phase.{Phase}
 use Rattle.rv_judge.specs.declared.phases.Phase.TheVariants.{Shards, Rows, Entries}
 use Rattle.rv_judge.specs.Subject.{Subject, step_to}
-use Rattle.rv_judge.specs.Phases.{entries_in, phase_at, phase_of, stopped, sums_of}
+use Rattle.rv_judge.specs.Phases.{entries_in, phase_at, phase_of, stopped, totals_of}
 use Rattle.rv_judge.specs.Alone.{can_stand, read_alone, read_table, stated}
 use Rattle.rv_judge.proofs.StepFound.{held, room}
 use Rattle.rv_judge.proofs.ReadingOn.{is-stream}
@@ -49,14 +49,14 @@ module _ (lanes : Lanes) (s : Subject) (extent : machine.Extent) (old new : mach
 -- ---- a shard
 
 -- behind shards
-pub record BehindShards (m : Machine) (p : Place) (sums : machine.Sums) : Type 0 where
+pub record BehindShards (lanes : Lanes) (m : Machine) (p : Place) (sums : machine.Sums) : Type 0 where
   pub place : m.place ≡ p
-  pub all : sums_of m.all ≡ sums
+  pub all : totals_of lanes m.all ≡ sums
 
-behind-shards : (lanes : Lanes) (m : Machine) (n i : ℕ) (p : Place) (sums : machine.Sums) → phase_of lanes m ≡ ShardsOf n i p sums → BehindShards m p sums
+behind-shards : (lanes : Lanes) (m : Machine) (n i : ℕ) (p : Place) (sums : machine.Sums) → phase_of lanes m ≡ ShardsOf n i p sums → BehindShards lanes m p sums
 behind-shards lanes m n i p sums e = go m.phase e
   where
-    go : (q : Phase) → phase_at lanes q m.place m.shard m.all ≡ ShardsOf n i p sums → BehindShards m p sums
+    go : (q : Phase) → phase_at lanes q m.place m.shard m.all ≡ ShardsOf n i p sums → BehindShards lanes m p sums
     go (Shards left next) f = record { place = cc; all = cc }
     go (Rows r) f = absurd cc
     go (Entries left next before) f = absurd cc
@@ -95,7 +95,7 @@ module _ (lanes : Lanes) (s : Subject) (i : ℕ) (bytes : List ℕ) where
 
     pub record ShardRead (x : Reading Shard) : Type 0 where
       pub is : read_shard true lanes s.elf s.input s.header s.output i p bytes ≡ Ok x
-      pub behind : BehindShards m x.place (event_sums true lanes (events (i * s.header.size) x.part.rows))
+      pub behind : BehindShards lanes m x.place (event_sums true lanes (events (i * s.header.size) x.part.rows))
       pub rest : x.left ≡ left
 
     pub shard-read : o ≡ None → (x : Reading Shard) × ShardRead x
@@ -134,14 +134,14 @@ module _ (lanes : Lanes) (s : Subject) (i : ℕ) (bytes : List ℕ) where
 
 -- ---- the table
 
-pub record BehindTable (m : Machine) (n : ℕ) (sums : machine.Sums) : Type 0 where
+pub record BehindTable (lanes : Lanes) (m : Machine) (n : ℕ) (sums : machine.Sums) : Type 0 where
   pub entries : entries_in m.phase ≡ n
-  pub all : sums_of m.all ≡ sums
+  pub all : totals_of lanes m.all ≡ sums
 
-behind-table : (lanes : Lanes) (m : Machine) (n : ℕ) (before : Option ℕ) (p : Place) (sums : machine.Sums) → phase_of lanes m ≡ EntriesOf 0 n before p sums → BehindTable m n sums
+behind-table : (lanes : Lanes) (m : Machine) (n : ℕ) (before : Option ℕ) (p : Place) (sums : machine.Sums) → phase_of lanes m ≡ EntriesOf 0 n before p sums → BehindTable lanes m n sums
 behind-table lanes m n before p sums e = go m.phase refl e
   where
-    go : (q : Phase) → m.phase ≡ q → phase_at lanes q m.place m.shard m.all ≡ EntriesOf 0 n before p sums → BehindTable m n sums
+    go : (q : Phase) → m.phase ≡ q → phase_at lanes q m.place m.shard m.all ≡ EntriesOf 0 n before p sums → BehindTable lanes m n sums
     go (Shards left next) at f = absurd cc
     go (Rows r) at f = absurd cc
     go (Entries left next above) at f = let same : next ≡ n = cc in record { entries = ap entries_in at ∙ same; all = cc }
@@ -168,7 +168,7 @@ module _ (lanes : Lanes) (s : Subject) (bytes : List ℕ) where
 
     pub record TableRead (x : List TableEntry × List ℕ) : Type 0 where
       pub is : read_table s.header bytes ≡ Ok x
-      pub behind : BehindTable m (u32_at bytes 0) (tuple_sums true lanes (map tuple_last x.0) (map (first_tuple s.elf s.header) x.0))
+      pub behind : BehindTable lanes m (u32_at bytes 0) (tuple_sums true lanes (map tuple_last x.0) (map (first_tuple s.elf s.header) x.0))
       pub rest : x.1 ≡ left
 
     pub table-read : o ≡ None → (x : List TableEntry × List ℕ) × TableRead x

@@ -14,7 +14,7 @@ use Rattle.rv_rules.specs.Reading.{above, head_of}
 use Rattle.rv_rowcheck.specs.RowChecking.{IsPlace}
 use Rattle.rv_spec.specs.Digest.{Lanes}
 use Rattle.rv_pairs.specs.declared.pairing.Pairing.{Pairing}
-use Rattle.rv_pairs.specs.Covers.{read_digest, written_digest}
+use Rattle.rv_pairs.specs.Covers.{read_digest, total, written_digest}
 use Rattle.rv_reading.specs.Stream.{Found}
 use Rattle.rv_reading.specs.Machine as machine
 use Rattle.rv_reading.specs.Machine.Phase.{Shards as ShardsOf, Rows as RowsOf, Entries as EntriesOf}
@@ -25,6 +25,7 @@ use Rattle.rv_judge.specs.declared.phases.Phase.{Phase}
 use Rattle.rv_judge.specs.declared.phases.Phase.TheVariants.{Shards, Rows, Entries}
 use Rattle.rv_judge.specs.declared.phases.RowsLeft.{RowsLeft}
 use Rattle.rv_judge.specs.declared.sums.Sums.{Sums}
+use Rattle.rv_judge.specs.declared.sums.Totals.{Totals}
 use Rattle.rv_judge.specs.declared.phases.Machine.{Machine}
 use Rattle.rv_judge.specs.Subject.{Subject, IsWithin, step}
 
@@ -36,6 +37,10 @@ extent_of Table = TableAlone
 abbrev pub sums_of : Sums → machine.Sums
 sums_of s = record { reads = s.reads.lanes; writes = s.writes.lanes }
 
+-- what the digests of all will be, once all that waits is added
+abbrev pub totals_of : Lanes → Totals → machine.Sums
+totals_of lanes t = record { reads = total lanes t.reads; writes = total lanes t.writes }
+
 -- what the digests of a shard will be, once all that waits is added
 abbrev pub sums_in : Lanes → Pairing → machine.Sums
 sums_in lanes p = record { reads = read_digest lanes p; writes = written_digest lanes p }
@@ -43,10 +48,10 @@ sums_in lanes p = record { reads = read_digest lanes p; writes = written_digest 
 abbrev pub inside_of : Lanes → RowsLeft → Pairing → machine.Inside
 inside_of lanes rows shard = record { head = rows.head; bytes = rows.bytes; sums = sums_in lanes shard }
 
-abbrev pub phase_at : Lanes → Phase → Place → Pairing → Sums → machine.Phase
-phase_at lanes (Shards left next) place shard all = ShardsOf left next place (sums_of all)
-phase_at lanes (Rows rows) place shard all = RowsOf rows.left rows.next rows.behind rows.shard (inside_of lanes rows shard) place (sums_of all)
-phase_at lanes (Entries left next before) place shard all = EntriesOf left next before place (sums_of all)
+abbrev pub phase_at : Lanes → Phase → Place → Pairing → Totals → machine.Phase
+phase_at lanes (Shards left next) place shard all = ShardsOf left next place (totals_of lanes all)
+phase_at lanes (Rows rows) place shard all = RowsOf rows.left rows.next rows.behind rows.shard (inside_of lanes rows shard) place (totals_of lanes all)
+phase_at lanes (Entries left next before) place shard all = EntriesOf left next before place (totals_of lanes all)
 
 abbrev pub phase_of : Lanes → Machine → machine.Phase
 phase_of lanes m = phase_at lanes m.phase m.place m.shard m.all

@@ -80,11 +80,12 @@ pub fn check_shard<L: Lanes>(
     if let Some(refusal) = stop.refusal {
         return Err(refusal);
     }
+    let all = machine.all.sums(lanes);
     Ok(ShardSeen {
         head,
         after: machine.place,
-        reads: machine.all.reads,
-        writes: machine.all.writes,
+        reads: all.reads,
+        writes: all.writes,
         used: bytes.len() - stop.left.len(),
     })
 }
@@ -110,10 +111,11 @@ pub fn check_table<L: Lanes>(
     if let Some(refusal) = stop.refusal {
         return Err(refusal);
     }
+    let all = machine.all.sums(lanes);
     Ok(TableSeen {
         entries: machine.entries(),
-        reads: machine.all.reads,
-        writes: machine.all.writes,
+        reads: all.reads,
+        writes: all.writes,
         used: bytes.len() - stop.left.len(),
     })
 }

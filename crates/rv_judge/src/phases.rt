@@ -8,7 +8,7 @@ ghost use Rattle.rv_judge.specs.declared.phases.Phase.TheVariants.{Shards as Sha
 ghost use Rattle.rv_judge.specs.Phases.{Fits, Steps, entries_in, extent_of, phase_of};
 
 use crate::subject::Subject;
-use crate::sums::Sums;
+use crate::sums::Totals;
 use rv_base::{Place, Refusal, ShardHead};
 use rv_digest::Lanes;
 use rv_pairs::Pairing;
@@ -51,13 +51,13 @@ pub(crate) enum Phase {
     },
 }
 
-/// Where the reading stands: the phase, the place in the run, the tuples of the shard so far, and the digests of all before it.
+/// Where the reading stands: the phase, the place in the run, the tuples of the shard so far, and those of all before it.
 #[derive(Clone, Copy)]
 pub(crate) struct Machine {
     pub phase: Phase,
     pub place: Place,
     pub shard: Pairing,
-    pub all: Sums,
+    pub all: Totals,
 }
 
 impl Machine {
@@ -70,7 +70,7 @@ impl Machine {
             phase: Phase::Shards { left, next },
             place,
             shard: Pairing::new(),
-            all: Sums::none(),
+            all: Totals::none(),
         }
     }
 
@@ -102,7 +102,7 @@ impl Machine {
             }
             Phase::Entries { left, next, before } => {
                 if left == 0 {
-                    self.end(subject, next, before, bytes)?;
+                    self.end(subject, lanes, next, before, bytes)?;
                     Ok(None)
                 } else {
                     Ok(Some(self.entry(subject, lanes, left, next, before, bytes)?))

@@ -135,22 +135,24 @@ impl Machine {
             value: entry.value,
             time: entry.time,
         };
-        self.all.add(lanes, &[last], &[subject.first_tuple(&entry)]);
+        self.all.add(lanes, last, subject.first_tuple(&entry));
         Ok(ENTRY_BYTES)
     }
 
     /// The end, behind the table.
-    pub(crate) fn end(
+    pub(crate) fn end<L: Lanes>(
         &self,
         subject: &Subject<'_, '_>,
+        lanes: &L,
         next: u32,
         before: Option<u32>,
         bytes: &[u8],
     ) -> Result<(), Refusal>
-        ensures { (lanes : LanesOf) → Ends lanes subject.now (phase_at lanes (EntriesPhase 0 next before) self.now.place self.now.shard self.now.all) bytes.now result }
+        ensures { Ends L.lanes subject.now (phase_at L.lanes (EntriesPhase 0 next before) self.now.place self.now.shard self.now.all) bytes.now result }
     {
         let header = subject.header();
-        match broken_end(header, self.place, &self.all, !bytes.is_empty()) {
+        let all = self.all.sums(lanes);
+        match broken_end(header, self.place, &all, !bytes.is_empty()) {
             Some(rule) => Err(Refusal::at(header.shards, next, rule)),
             None => Ok(()),
         }

@@ -26,7 +26,7 @@ pub struct Adder {
 }
 
 impl Adder {
-    ghost use Rattle.rv_pairs.specs.Covers.{total as total_of, with_tuples};
+    ghost use Rattle.rv_pairs.specs.Covers.{joined, total as total_of, with_tuples};
 
     /// The empty list.
     pub fn new() -> Adder
@@ -58,6 +58,13 @@ impl Adder {
             self.sum.add_tuples(l, &self.buffer);
             self.count = 0;
         }
+    }
+
+    /// Joins another list to the list, by its digest.
+    pub fn join(&mut self, other: &SetDigest)
+        ensures { (lanes : LanesOf) → total_of lanes self.new ≡ joined (total_of lanes self.old) other.now.lanes }
+    {
+        self.sum.add(other);
     }
 
     /// The digest of the list.

@@ -38,14 +38,14 @@ returns g c =
     let begun = c.at_shards-machine.ensures.phase lanes ∙ ap (λ (h : ShardHead). Shards 1 i (stated_in h) no_sums) head in
     let read = shard-read lanes s i bytes m (stated bytes) (phase_of lanes c.at_shards-machine.result) left c.read-stop.result.refusal c.read-stop.ensures.stops c.read-stop.ensures.goes begun c.in_default-refusal.is in
     let x = read.0 in
-    subst (λ (z : Subject). SeesShard lanes z i bytes (Ok (record { head = c.in-Some.head; after = m.place; reads = m.all.reads; writes = m.all.writes; used = length bytes - length left }))) c.new-subject.ensures (
+    subst (λ (z : Subject). SeesShard lanes z i bytes (Ok (record { head = c.in-Some.head; after = m.place; reads = c.sums-all.result.reads; writes = c.sums-all.result.writes; used = length bytes - length left }))) c.new-subject.ensures (
       x,
       alone lanes s i bytes c.in-Some.ensures.0 stands ∙ read.1.is,
       record {
         head = head ∙ sym (head-read lanes s i bytes (stated bytes) x read.1.is);
         after = read.1.behind.place;
-        reads = ap (λ (z : machine.Sums). z.reads) read.1.behind.all;
-        writes = ap (λ (z : machine.Sums). z.writes) read.1.behind.all;
+        reads = ap (λ (z : machine.Sums). z.reads) (c.sums-all.ensures ∙ read.1.behind.all);
+        writes = ap (λ (z : machine.Sums). z.writes) (c.sums-all.ensures ∙ read.1.behind.all);
         used = omega arith;
         left = read.1.rest ∙ c.read-stop.ensures.behind;
       },

@@ -25,13 +25,13 @@ returns g c =
     let left = c.read-stop.result.left.now in
     let read =
     table-read lanes s bytes m 0 c.first_place.result (phase_of lanes c.at_shards-machine.result) left c.read-stop.result.refusal c.read-stop.ensures.stops c.read-stop.ensures.goes (c.at_shards-machine.ensures.phase lanes) c.in_default.is in
-    subst (λ (z : Subject). SeesTable lanes z.elf z.header bytes (Ok (record { entries = c.entries.result; reads = m.all.reads; writes = m.all.writes; used = length bytes - length left }))) c.new-subject.ensures (
+    subst (λ (z : Subject). SeesTable lanes z.elf z.header bytes (Ok (record { entries = c.entries.result; reads = c.sums-all.result.reads; writes = c.sums-all.result.writes; used = length bytes - length left }))) c.new-subject.ensures (
       read.0,
       read.1.is,
       record {
         entries = c.entries.ensures ∙ read.1.behind.entries;
-        reads = ap (λ (z : machine.Sums). z.reads) read.1.behind.all;
-        writes = ap (λ (z : machine.Sums). z.writes) read.1.behind.all;
+        reads = ap (λ (z : machine.Sums). z.reads) (c.sums-all.ensures ∙ read.1.behind.all);
+        writes = ap (λ (z : machine.Sums). z.writes) (c.sums-all.ensures ∙ read.1.behind.all);
         used = omega arith;
         left = read.1.rest ∙ c.read-stop.ensures.behind;
       },

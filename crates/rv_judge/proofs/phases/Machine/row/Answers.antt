@@ -9,7 +9,7 @@ use Rattle.rv_row.proofs.Lemmas.{good-form}
 use Rattle.rv_reading.specs.Machine.{with_events}
 use Rattle.rv_reading.specs.Machine.Phase.{Rows}
 use Rattle.rv_judge.specs.declared.phases.RowsLeft.{RowsLeft}
-use Rattle.rv_judge.specs.Phases.{RowsFit, sums_in, sums_of, inside_of}
+use Rattle.rv_judge.specs.Phases.{RowsFit, sums_in, totals_of, inside_of}
 use Rattle.rv_judge.proofs.ShardSums.{events-added}
 use Rattle.rv_judge.proofs.StepFound.{row-formless, row-false, row-reached}
 use Rattle.rv_judge.proofs.phases.Machine.row.Goals as goal
@@ -29,9 +29,9 @@ returns-in-Ok g c =
     ∙ ap (λ (z : List Access). with_events true g.L.Lanes.lanes (sums_in g.L.Lanes.lanes m.shard) (map (event c.step_of-step.result) z)) c.as_slice.ensures.value in
     record {
       found =
-          row-reached g.L.Lanes.lanes s r.next r.behind r.shard (inside_of g.L.Lanes.lanes r m.shard) m.place (sums_of m.all) c.args.bytes.now r.left c.in-Row.length c.step_of-step.result (row_view c.in-Row.row) c.in-Ok.after (sums_in g.L.Lanes.lanes c.accesses.new.self)
+          row-reached g.L.Lanes.lanes s r.next r.behind r.shard (inside_of g.L.Lanes.lanes r m.shard) m.place (totals_of g.L.Lanes.lanes m.all) c.args.bytes.now r.left c.in-Row.length c.step_of-step.result (row_view c.in-Row.row) c.in-Ok.after (sums_in g.L.Lanes.lanes c.accesses.new.self)
           c.requires.some read.0 read.1 read.2 c.step_of-step.ensures.value judged.0 judged.1 added
-          ∙ ap (λ (z : RowsLeft). Ok (Some (Rows z.left z.next z.behind z.shard (inside_of g.L.Lanes.lanes z c.accesses.new.self) c.in-Ok.after (sums_of m.all), drop c.in-Row.length c.args.bytes.now))) (sym c.behind_row.ensures);
+          ∙ ap (λ (z : RowsLeft). Ok (Some (Rows z.left z.next z.behind z.shard (inside_of g.L.Lanes.lanes z c.accesses.new.self) c.in-Ok.after (totals_of g.L.Lanes.lanes m.all), drop c.in-Row.length c.args.bytes.now))) (sym c.behind_row.ensures);
       taken = read.3;
       fits = record {
         within = c.requires.fits.within;
@@ -52,19 +52,19 @@ returns-in-Err g c =
     let read = c.in-Row.ensures.exact in
     let row = row_view c.in-Row.row in
     let rule = ap (λ n. row_rule s.header.version row n m.place (last_of s.header n) s.input s.output) (sym c.step_of-step.ensures.value) ∙ c.in-Err.ensures.answer in
-    let found = row-false g.L.Lanes.lanes s r.next r.behind r.shard (inside_of g.L.Lanes.lanes r m.shard) m.place (sums_of m.all) c.args.bytes.now r.left c.in-Err.rule row c.requires.some read.0 read.1 rule in
+    let found = row-false g.L.Lanes.lanes s r.next r.behind r.shard (inside_of g.L.Lanes.lanes r m.shard) m.place (totals_of g.L.Lanes.lanes m.all) c.args.bytes.now r.left c.in-Err.rule row c.requires.some read.0 read.1 rule in
     (found ∙ ap (λ (x : Refusal). Err x) (sym c.at.ensures), refl)
 
 pub returns-in-Short : goal.returns-in-Short
 returns-in-Short g c =
     let r = c.args.rows in
     let m = c.args.self.now in
-    let found = row-formless g.L.Lanes.lanes c.args.subject.now r.next r.behind r.shard (inside_of g.L.Lanes.lanes r m.shard) m.place (sums_of m.all) c.args.bytes.now r.left 1 c.requires.some c.in-Short.ensures.exact in
+    let found = row-formless g.L.Lanes.lanes c.args.subject.now r.next r.behind r.shard (inside_of g.L.Lanes.lanes r m.shard) m.place (totals_of g.L.Lanes.lanes m.all) c.args.bytes.now r.left 1 c.requires.some c.in-Short.ensures.exact in
     (found ∙ ap (λ (x : Refusal). Err x) (sym c.at-in-Short.ensures), refl)
 
 pub returns-in-Shape : goal.returns-in-Shape
 returns-in-Shape g c =
     let r = c.args.rows in
     let m = c.args.self.now in
-    let found = row-formless g.L.Lanes.lanes c.args.subject.now r.next r.behind r.shard (inside_of g.L.Lanes.lanes r m.shard) m.place (sums_of m.all) c.args.bytes.now r.left 10 c.requires.some c.in-Shape.ensures.exact in
+    let found = row-formless g.L.Lanes.lanes c.args.subject.now r.next r.behind r.shard (inside_of g.L.Lanes.lanes r m.shard) m.place (totals_of g.L.Lanes.lanes m.all) c.args.bytes.now r.left 10 c.requires.some c.in-Shape.ensures.exact in
     (found ∙ ap (λ (x : Refusal). Err x) (sym c.at-in-Shape.ensures), refl)

@@ -1,4 +1,4 @@
-use Rattle.std.proofs.Common.{rules, ◌≡◌, ◌∙◌, ◌+◌, ◌<◌, ◌≤◌, List, ℕ, [], length, set, take, ap, sym, arith, length-set}
+use Rattle.std.proofs.Common.{rules, ◌≡◌, ◌∙◌, ◌+◌, List, ℕ, [], length, set, take, ap, sym, arith, length-set}
 use Rattle.std.proofs.lemmas.List.{take_all}
 use Rattle.rv_pairs.specs.Covers.{total, with_tuples}
 use Rattle.rv_pairs.proofs.LaneSums.{with-none}

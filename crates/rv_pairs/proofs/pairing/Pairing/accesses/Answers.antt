@@ -1,7 +1,6 @@
 use Rattle.std.proofs.Common.{◌≡◌, ◌∙◌, ◌+◌, ◌<◌, List, map, take, get_or, length, sym, refl, ap, arith}
 use Rattle.std.proofs.lemmas.List.{take_all}
 use Rattle.rv_base.specs.declared.record.Access.{Access}
-use Rattle.rv_base.specs.declared.record.Tuple.{Tuple}
 use Rattle.rv_spec.specs.Tuples.{event, tuple_read, tuple_written}
 use Rattle.rv_pairs.specs.Covers.{read_digest, with_tuples, written_digest}
 use Rattle.rv_pairs.proofs.LaneSums.{covers-more, read-none, step-more, written-none}
