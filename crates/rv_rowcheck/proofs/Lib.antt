@@ -1,4 +1,5 @@
 mod Compared
+mod InOnePass
 mod FirstIn
 mod ExpectedPlace
 pub mod AfterRow

@@ -3,15 +3,15 @@
 ghost use Rattle.std.specs.Prelude.{◌≡◌, ◌⊎◌, ◌+◌, ◌<◌, ◌≤◌, ◌^◌, length, IfOk};
 ghost use Rattle.rv_rules.specs.Checks as rules;
 ghost use Rattle.rv_row.specs.RowReading.{row_view};
-ghost use Rattle.rv_rowcheck.specs.RowChecking.{AnswersRow, BreaksAgainst, IsPlace};
+ghost use Rattle.rv_rowcheck.specs.RowChecking.{AnswersRow, BreaksAgainst, IsPlace, access_checks};
 
 use crate::agreeing::{
-    bytes_agree, cells_agree, ends_as, ends_no_earlier, slots_agree, times_are_earlier,
+    all_agree, bytes_agree, cells_agree, ends_as, ends_no_earlier, slots_agree, times_are_earlier,
     values_agree,
 };
 use crate::seeing::seen;
 use rv_base::rules::{CELL, END_OTHER, ENDS_EARLY, NEXT, OUTPUT_BYTE, PC, SLOT, TIME_ORDER, VALUE};
-use rv_base::{End, Place};
+use rv_base::{Access, End, Place, Touch};
 use rv_isa::{Expected, expect};
 use rv_row::Row;
 
@@ -25,6 +25,22 @@ fn first_broken(checks: &[(u8, bool)]) -> Option<u8>
         }
     }
     None
+}
+
+/// The least rule that the accesses of a row break.
+fn broken_access(accesses: &[Access], touches: &[Touch], step: u64) -> Option<u8>
+    requires { step < 2 ^ 32 }
+    ensures { result ≡ rules.first_broken (access_checks step accesses.now touches.now) }
+{
+    if all_agree(accesses, touches, step) {
+        return None;
+    }
+    first_broken(&[
+        (SLOT, slots_agree(accesses, touches)),
+        (CELL, cells_agree(accesses, touches)),
+        (VALUE, values_agree(accesses, touches)),
+        (TIME_ORDER, times_are_earlier(accesses, step)),
+    ])
 }
 
 /// The least rule that a row at its place breaks, against its expected step.
@@ -41,13 +57,10 @@ fn broken(
     requires most { due.now.put ≤ 4 }
     ensures { BreaksAgainst row.now due.now step place last output.now result }
 {
-    let accesses = row.accesses.as_slice();
-    let touches = due.touches.as_slice();
+    if let Some(rule) = broken_access(row.accesses.as_slice(), due.touches.as_slice(), step) {
+        return Some(rule);
+    }
     first_broken(&[
-        (SLOT, slots_agree(accesses, touches)),
-        (CELL, cells_agree(accesses, touches)),
-        (VALUE, values_agree(accesses, touches)),
-        (TIME_ORDER, times_are_earlier(accesses, step)),
         (NEXT, row.next == due.next),
         (
             OUTPUT_BYTE,
