@@ -8,8 +8,9 @@ use Rattle.rv_spec.specs.Elf.{Image}
 use Rattle.rv_spec.specs.Step.{State, step}
 use Rattle.rv_spec.specs.Run.{end_of, next_state, run}
 use Rattle.rv_spec.specs.Visits.{visits}
-use Rattle.rv_spec.specs.Trace.{Row, access, history, table, tuples_left}
+use Rattle.rv_spec.specs.Trace.{Row as Traced, access, history, table, tuples_left}
 use Rattle.rv_rules.specs.Agreement.{IsProgram}
+use Rattle.rv_row.specs.declared.rows.Row.{Row}
 use Rattle.rv_row.specs.RowReading.{row_view}
 use Rattle.rv_mem.specs.Contents.{IsTable}
 use Rattle.rv_isa.specs.declared.hart.Stepped.{Stepped}
@@ -28,12 +29,12 @@ abbrev pub left_after : List ℕ → State → List Tuple → ℕ → List Tuple
 left_after input s before k = before ++ tuples_left k (visits input s)
 
 -- the row of step number k from a state
-abbrev pub row_from : List ℕ → State → List Tuple → ℕ → Row
+abbrev pub row_from : List ℕ → State → List Tuple → ℕ → Traced
 row_from input s before k = record { pc = s.pc; next = (next_state input s).pc; accesses = map (access (left_after input s before k) k) (visits input s) }
 
 -- The step gives its row, and leaves its times in the cells that it uses, also where it ends the run.
-pub record TakesTimes (input : List ℕ) (s : State) (before : List Tuple) (k : ℕ) (m : Stepped) (h : HartState) : Type 0 where
-  pub row : row_view m.row ≡ row_from input s before k
+pub record TakesTimes (input : List ℕ) (s : State) (before : List Tuple) (k : ℕ) (r : Row) (h : HartState) : Type 0 where
+  pub row : row_view r ≡ row_from input s before k
   pub timed : IsTimed h (left_after input s before k) (k + 1)
 
 -- The law of the table: the cells that a hart has used, after n steps of a run, are the table of the run. The step that ends a run counts: it leaves its times, and the state stays.

@@ -26,11 +26,10 @@ use rv_row::Row;
 use std::alloc::Global;
 use std::marker::Model;
 
-/// A step that was taken: its row, the end if it ends the run, the bytes of input that it takes, and the bytes
-/// that it puts: the first `put` bytes of `word`, 0 to 4, the least significant first.
-#[derive(Drop)]
+/// A step that was taken: the end if it ends the run, the bytes of input that it takes, and the bytes that it
+/// puts: the first `put` bytes of `word`, 0 to 4, the least significant first.
+#[derive(Clone, Copy, Debug)]
 pub struct Stepped {
-    pub row: Row,
     pub end: Option<End>,
     pub took: u32,
     pub put: u32,
@@ -123,22 +122,22 @@ impl<'a> Hart<'a> {
         self.position
     }
 
-    /// Takes one step, as the step of that number, from 0 on, for the times. A step that ends the run stays
-    /// where it is, and uses its cells all the same. Without memory nothing changes.
-    pub fn step(&mut self, number: u64) -> Result<Stepped, NoMemory>
+    /// Takes one step, as the step of that number, from 0 on, for the times, and leaves its row in place of
+    /// another. A step that ends the run stays where it is, and uses its cells all the same. Without memory
+    /// nothing changes but the row.
+    pub fn step(&mut self, number: u64, row: &mut Row) -> Result<Stepped, NoMemory>
         requires { number < 2 ^ 32 }
         ensures image { self.new.cells.image ≡ self.old.cells.image }
         ensures input { self.new.input ≡ self.old.input }
         ensures ok { (s : State) → StandsFor self.old s → IfOk result (λ m. TakesStepFrom self.old.input s m self.new) }
-        ensures times { (s : State) (before : List TupleOf) → StandsFor self.old s → IsTimed self.old before number → IfOk result (λ m. TakesTimes self.old.input s before number m self.new) }
+        ensures times { (s : State) (before : List TupleOf) → StandsFor self.old s → IsTimed self.old before number → OnOk result (TakesTimes self.old.input s before number row.new self.new) }
         ensures err { OnErr result (self.new ≡ self.old) }
     {
         let mut look = Look::new();
         self.look(&mut look);
-        let row = self.row(number, &look);
+        self.fill(number, &look, row);
         self.carry_out(number, &look)?;
         Ok(Stepped {
-            row,
             end: look.outcome.end,
             took: look.outcome.took,
             put: look.outcome.put,
@@ -170,17 +169,16 @@ impl<'a> Hart<'a> {
         look.outcome = make(&step, &mut look.touches, found.decoded);
     }
 
-    /// The row of the next step, which was looked at.
-    fn row(&self, number: u64, look: &Look) -> Row
+    /// Leaves the row of the next step, which was looked at, in place of another.
+    fn fill(&self, number: u64, look: &Look, row: &mut Row)
         requires number { number < 2 ^ 32 }
         requires tells { (s : State) → StandsFor self.now s → TellsStep self.now.input s look.now }
-        ensures { (s : State) (before : List TupleOf) → StandsFor self.now s → IsTimed self.now before number → row_view result ≡ row_from self.now.input s before number }
+        ensures { (s : State) (before : List TupleOf) → StandsFor self.now s → IsTimed self.now before number → row_view row.new ≡ row_from self.now.input s before number }
     {
-        Row {
-            pc: self.pc,
-            next: look.outcome.next,
-            accesses: row_accesses(&self.cells, number, look.touches.list.as_slice()),
-        }
+        row.pc = self.pc;
+        row.next = look.outcome.next;
+        let touches = look.touches.list.as_slice();
+        row_accesses(&self.cells, number, touches, &mut row.accesses);
     }
 
     /// Takes the step that was looked at. Without memory nothing changes.

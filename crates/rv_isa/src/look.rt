@@ -33,21 +33,22 @@ impl Look {
     }
 }
 
-/// The accesses of a row, as step number `number`, from the touches of the step and the cells before it.
+/// Puts the accesses of a row in the place of others, as step number `number`, from the touches of the step and
+/// the cells before it.
 pub(crate) fn row_accesses(
     cells: &Memory<'_>,
     number: u64,
     touches: &[Touch],
-) -> ArrayVec<Access, SLOTS>
+    accesses: &mut ArrayVec<Access, SLOTS>,
+)
     requires number { number < 2 ^ 32 }
     requires most { length touches.now ≤ 8 }
-    ensures { result.items ≡ accesses_of cells.now number [] touches.now }
+    ensures { accesses.new.items ≡ accesses_of cells.now number [] touches.now }
 {
-    let mut accesses = ArrayVec::new();
+    accesses.clear();
     for i in 0..touches.len() {
         accesses.push(row_access(cells, number, &touches[..i], touches[i]));
     }
-    accesses
 }
 
 /// The access of a touch, after earlier touches of its step.

@@ -89,9 +89,9 @@ module _ (i : Image) (input : List ℕ) where
 
 -- ---- a step of the course
 
-module _ (old new : Course) (m : Stepped) (at : IsAt old) (going : old.ended ≡ None) (image : new.hart.cells.image ≡ old.hart.cells.image) (input_same : new.hart.input ≡ old.hart.input)
+module _ (old new : Course) (r : Row) (m : Stepped) (at : IsAt old) (going : old.ended ≡ None) (image : new.hart.cells.image ≡ old.hart.cells.image) (input_same : new.hart.input ≡ old.hart.input)
     (takes : TakesStepFrom old.hart.input (run old.hart.cells.image old.hart.input old.steps) m new.hart)
-    (times : TakesTimes old.hart.input (run old.hart.cells.image old.hart.input old.steps) (history old.hart.cells.image old.hart.input old.steps) old.steps m new.hart)
+    (times : TakesTimes old.hart.input (run old.hart.cells.image old.hart.input old.steps) (history old.hart.cells.image old.hart.input old.steps) old.steps r new.hart)
     (output : new.output.items ≡ old.output.items ++ take m.put (to_le_bytes w32 m.word)) (steps : new.steps ≡ old.steps + 1) (ended : new.ended ≡ m.end) where
   abbrev i : Image
   i = old.hart.cells.image
@@ -117,7 +117,7 @@ module _ (old new : Course) (m : Stepped) (at : IsAt old) (going : old.ended ≡
   done-now : (e : End) → new.ended ≡ Some e → EndsIn i input n e
   done-now e some = subst (λ (x : ℕ). EndsIn i input x e) (sym steps) (ends-now i input k e (at.going going) (sym takes.ends ∙ sym ended ∙ some))
 
-  pub row-taken : TakesRow old new m.row
+  pub row-taken : TakesRow old new r
   unfolding run history
   row-taken = record {
     same = record { image = image; input = input_same };

@@ -284,13 +284,13 @@ same-behind (x ∷ xs) ys zs e = same-behind xs ys zs cc
 
 pub replays-step : ReplaysStep
 unfolding run
-replays-step i input k n m old new s program bytes less r image input_is takes times =
+replays-step i input k n m old new x s program bytes less r image input_is takes times =
     let states = runs-are-states i input program bytes in
     let t : State = r.state in
     let j : ℕ = k + m in
     let version : t.version ≡ (run i input j).version = sym r.stands.version ∙ ap (λ (a : Image). a.version) r.image ∙ sym (run-version i input j) in
     let step_is : TakesStepFrom input t s new = subst (λ (b : List ℕ). TakesStepFrom b t s new) r.input_is (takes t r.stands) in
-    let times_are : TakesTimes input t (known i input k n j) j s new = subst (λ (b : List ℕ). TakesTimes b t (known i input k n j) j s new) r.input_is (times t (known i input k n j) r.stands r.timed) in
+    let times_are : TakesTimes input t (known i input k n j) j x new = subst (λ (b : List ℕ). TakesTimes b t (known i input k n j) j x new) r.input_is (times t (known i input k n j) r.stands r.timed) in
     let same : IsSameStep input (run i input j) t = same i input states k n m t less r.stands.ranges version r.alike in
     let to : suc j ≡ k + (m + 1) = omega arith in
     let next : j + 1 ≡ k + (m + 1) = omega arith in

@@ -9,6 +9,7 @@ use Rattle.rv_spec.specs.Cells.{value}
 use Rattle.rv_spec.specs.Trace.{history, row, rows}
 use Rattle.rv_rules.specs.Agreement.{IsProgram}
 use Rattle.rv_rules.specs.Membership.{In}
+use Rattle.rv_row.specs.declared.rows.Row.{Row}
 use Rattle.rv_row.specs.RowReading.{row_view}
 use Rattle.rv_isa.specs.declared.hart.Stepped.{Stepped}
 use Rattle.rv_isa.specs.Hart.{TakesStepFrom, TakesTimes}
@@ -47,8 +48,8 @@ ReplaysBegin =
     → HoldsListed h i (map (cell_at i input k) (cells_of (rows i input k n))) → StandsFor h t → IsReplaying i input k n 0 h
 
 -- the step of a replay makes the row of the run, and puts as many bytes as the run's step
-pub record MakesRow (i : Image) (input : List ℕ) (k n m : ℕ) (s : Stepped) (h : HartState) : Type 0 where
-  pub is : row_view s.row ≡ row i input (k + m)
+pub record MakesRow (i : Image) (input : List ℕ) (k n m : ℕ) (r : Row) (s : Stepped) (h : HartState) : Type 0 where
+  pub is : row_view r ≡ row i input (k + m)
   pub replaying : IsReplaying i input k n (m + 1) h
   pub few : s.put ≤ 4
   pub put : length (run i input (k + m)).output + s.put ≡ length (run i input (k + (m + 1))).output
@@ -56,6 +57,6 @@ pub record MakesRow (i : Image) (input : List ℕ) (k n m : ℕ) (s : Stepped) (
 -- And each step of such a hart makes the next row.
 abbrev pub ReplaysStep : Type 0
 ReplaysStep =
-    (i : Image) (input : List ℕ) (k n m : ℕ) (old new : HartState) (s : Stepped) → IsProgram i → AreBytes input → m < n → IsReplaying i input k n m old → new.cells.image ≡ old.cells.image → new.input ≡ old.input
-    → ((t : State) → StandsFor old t → TakesStepFrom old.input t s new) → ((t : State) (before : List Tuple) → StandsFor old t → IsTimed old before (k + m) → TakesTimes old.input t before (k + m) s new)
-    → MakesRow i input k n m s new
+    (i : Image) (input : List ℕ) (k n m : ℕ) (old new : HartState) (r : Row) (s : Stepped) → IsProgram i → AreBytes input → m < n → IsReplaying i input k n m old → new.cells.image ≡ old.cells.image → new.input ≡ old.input
+    → ((t : State) → StandsFor old t → TakesStepFrom old.input t s new) → ((t : State) (before : List Tuple) → StandsFor old t → IsTimed old before (k + m) → TakesTimes old.input t before (k + m) r new)
+    → MakesRow i input k n m r s new

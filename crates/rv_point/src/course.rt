@@ -1,6 +1,7 @@
 //! A run step by step, with its output.
 
-ghost use Rattle.std.specs.Prelude.{◌≡◌, ◌+◌, ◌*◌, ◌^◌, ◌<◌, ◌≤◌, ◌++◌, List, length, Some, None, IfOk, IfErr, OnOk};
+ghost use Rattle.std.specs.Prelude.{◌≡◌, ◌+◌, ◌*◌, ◌^◌, ◌<◌, ◌≤◌, ◌++◌, List, length, take, Some, None, IfOk, IfErr, OnOk};
+ghost use Rattle.std.specs.Int.{w32, to_le_bytes};
 ghost use Rattle.std.specs.List.Sorted.{IsPermutation, IsNonDecreasingBy};
 ghost use Rattle.rv_base.specs.declared.limits.TheConstants.{SHARD_SIZE_LIMIT};
 ghost use Rattle.rv_base.specs.declared.record.TableEntry.{TableEntry as EntryOf};
@@ -11,6 +12,7 @@ ghost use Rattle.rv_point.specs.Course.{GivesShard, HasFault, IsAt, IsBegun, IsN
 
 use crate::fault::RunFault;
 use crate::start::{Cells, ShardStart};
+use arrayvec::ArrayVec;
 use rv_base::limits::SHARDS_LIMIT;
 use rv_base::{Access, End, NoMemory, Place, TableEntry, time_of};
 use rv_isa::Hart;
@@ -39,20 +41,19 @@ impl Course<'_> {
         }
     }
 
-    /// Takes the next step, and gives its row.
-    pub fn take_step(&mut self) -> Result<Row, NoMemory>
+    /// Takes the next step, and leaves its row in place of another.
+    pub fn take_step(&mut self, row: &mut Row) -> Result<(), NoMemory>
         requires at { IsAt self.old }
         requires going { self.old.ended ≡ None }
         requires number { self.old.steps < 2 ^ 32 }
         ensures same { IsSameRun self.old self.new }
-        ensures ok { IfOk result (TakesRow self.old self.new) }
+        ensures ok { OnOk result (TakesRow self.old self.new row.new) }
     {
-        let taken = self.hart.step(self.steps)?;
-        let bytes = taken.word.to_le_bytes();
-        self.output.extend_from_slice(&bytes[..taken.put as usize])?;
+        let taken = self.hart.step(self.steps, row)?;
+        put(&mut self.output, taken.word, taken.put)?;
         self.steps += 1;
         self.ended = taken.end;
-        Ok(taken.row)
+        Ok(())
     }
 
     /// Takes steps until the run ends or so many were taken, and lists what the first uses of their cells find.
@@ -64,8 +65,9 @@ impl Course<'_> {
         ensures ok { OnOk result (TakesRows self.old self.new most entries.old.items entries.new.items) }
     {
         let first = time_of(self.steps, 0);
+        let mut row = no_row();
         for taken in 0..most {
-            let row = self.take_step()?;
+            self.take_step(&mut row)?;
             list_firsts(entries, row.accesses.as_slice(), first)?;
             if self.ended.is_some() {
                 return Ok(());
@@ -97,8 +99,9 @@ impl Course<'_> {
         ensures same { IsSameRun self.old self.new }
         ensures ok { OnOk result (SkipsSteps self.old self.new most) }
     {
+        let mut row = no_row();
         for taken in 0..most {
-            self.take_step()?;
+            self.take_step(&mut row)?;
             if self.ended.is_some() {
                 return Ok(());
             }
@@ -180,6 +183,27 @@ impl Course<'_> {
         let needed = self.needed(size, budget)?;
         Err(RunFault::Shards { needed })
     }
+}
+
+/// A row to be replaced.
+fn no_row() -> Row {
+    Row {
+        pc: 0,
+        next: 0,
+        accesses: ArrayVec::new(),
+    }
+}
+
+/// Adds the first `count` bytes of a word to the output.
+fn put(output: &mut Vec<u8>, word: u32, count: u32) -> Result<(), NoMemory>
+    requires { count ≤ 4 }
+    ensures { OnOk result (output.new.items ≡ output.old.items ++ take count (to_le_bytes w32 word)) }
+{
+    if count > 0 {
+        let bytes = word.to_le_bytes();
+        output.extend_from_slice(&bytes[..count as usize])?;
+    }
+    Ok(())
 }
 
 /// Lists what accesses find that are the first ones of their cells, where no cell was used after a time before them.

@@ -17,6 +17,7 @@ use Rattle.rv_spec.specs.Visits.{Use, visit, step_uses, visits}
 use Rattle.rv_spec.specs.Trace.{Row, access, history, row, rows}
 use Rattle.rv_spec.specs.Tuples.{Event, event, events, tuple_read, tuple_written}
 use Rattle.rv_spec.specs.Record.{row_bytes, row_length, rows_length, head_bytes, shard_bytes, shard_of, place_at}
+use Rattle.rv_row.specs.declared.rows.Row.{Row as Filled}
 use Rattle.rv_row.specs.RowReading.{row_view}
 use Rattle.rv_row.proofs.Lemmas.{length-row_bytes}
 use Rattle.rv_isa.specs.declared.hart.Stepped.{Stepped}
@@ -76,18 +77,18 @@ module _ (i : Image) (input : List ℕ) where
 
   -- ---- one row more
 
-  module _ (lanes : Lanes) (k n m : ℕ) (old new : Making) (paired pairs : Pairing) (s : Stepped) (made : HasMade lanes i input k n m old paired) (makes : MakesRow i input k n m s new.hart) where
-    pub made-more : new.bytes.items ≡ old.bytes.items ++ row_bytes (row_view s.row)
-        → ((rs ws : List Tuple) → Covers lanes paired rs ws → Covers lanes pairs (rs ++ map tuple_read (map (event (k + m)) s.row.accesses.items)) (ws ++ map tuple_written (map (event (k + m)) s.row.accesses.items)))
+  module _ (lanes : Lanes) (k n m : ℕ) (old new : Making) (paired pairs : Pairing) (filled : Filled) (s : Stepped) (made : HasMade lanes i input k n m old paired) (makes : MakesRow i input k n m filled s new.hart) where
+    pub made-more : new.bytes.items ≡ old.bytes.items ++ row_bytes (row_view filled)
+        → ((rs ws : List Tuple) → Covers lanes paired rs ws → Covers lanes pairs (rs ++ map tuple_read (map (event (k + m)) filled.accesses.items)) (ws ++ map tuple_written (map (event (k + m)) filled.accesses.items)))
         → new.put ≡ old.put + s.put → HasMade lanes i input k n (m + 1) new pairs
     made-more bytes more put =
         let r : Row = row i input (k + m) in
         let before : List Event = events k (rows i input k m) in
-        let read : map tuple_read before ++ map tuple_read (map (event (k + m)) s.row.accesses.items) ≡ map tuple_read (events k (rows i input k (m + 1))) =
+        let read : map tuple_read before ++ map tuple_read (map (event (k + m)) filled.accesses.items) ≡ map tuple_read (events k (rows i input k (m + 1))) =
         ap (λ (x : Row). map tuple_read before ++ map tuple_read (map (event (k + m)) x.accesses)) makes.is ∙ sym (map-append tuple_read before (map (event (k + m)) r.accesses)) ∙ ap (map tuple_read) (sym (events-more k m)) in
-        let written : map tuple_written before ++ map tuple_written (map (event (k + m)) s.row.accesses.items) ≡ map tuple_written (events k (rows i input k (m + 1))) =
+        let written : map tuple_written before ++ map tuple_written (map (event (k + m)) filled.accesses.items) ≡ map tuple_written (events k (rows i input k (m + 1))) =
         ap (λ (x : Row). map tuple_written before ++ map tuple_written (map (event (k + m)) x.accesses)) makes.is ∙ sym (map-append tuple_written before (map (event (k + m)) r.accesses)) ∙ ap (map tuple_written) (sym (events-more k m)) in
-        let covers : Covers lanes pairs (map tuple_read before ++ map tuple_read (map (event (k + m)) s.row.accesses.items)) (map tuple_written before ++ map tuple_written (map (event (k + m)) s.row.accesses.items)) =
+        let covers : Covers lanes pairs (map tuple_read before ++ map tuple_read (map (event (k + m)) filled.accesses.items)) (map tuple_written before ++ map tuple_written (map (event (k + m)) filled.accesses.items)) =
         more (map tuple_read before) (map tuple_written before) made.covers in
         record {
           replaying = makes.replaying;
@@ -95,18 +96,18 @@ module _ (i : Image) (input : List ℕ) where
           size = made.size;
           bytes = bytes ∙ (λ t. made.bytes t ++ row_bytes (makes.is t)) ∙ append_assoc made.room (flat_map row_bytes (rows i input k m)) (row_bytes r) ∙ ap (λ (bs : List ℕ). made.room ++ bs) (sym (bytes-more k m));
           covers = subst (λ (ts : List Tuple). Covers lanes pairs ts (map tuple_written (events k (rows i input k (m + 1))))) read
-              (subst (λ (ts : List Tuple). Covers lanes pairs (map tuple_read before ++ map tuple_read (map (event (k + m)) s.row.accesses.items)) ts) written covers);
+              (subst (λ (ts : List Tuple). Covers lanes pairs (map tuple_read before ++ map tuple_read (map (event (k + m)) filled.accesses.items)) ts) written covers);
           put = omega (arith, put, made.put, makes.put);
           few = omega (arith, put, made.few, makes.few);
         }
 
   -- the step of the hart makes the next row
-  pub row-made : (lanes : Lanes) (k n m number : ℕ) (old : Making) (paired : Pairing) (new : HartState) (s : Stepped) → IsProgram i → AreBytes input → number ≡ k + m → m < n → HasMade lanes i input k n m old paired
+  pub row-made : (lanes : Lanes) (k n m number : ℕ) (old : Making) (paired : Pairing) (new : HartState) (filled : Filled) (s : Stepped) → IsProgram i → AreBytes input → number ≡ k + m → m < n → HasMade lanes i input k n m old paired
       → new.cells.image ≡ old.hart.cells.image → new.input ≡ old.hart.input → ((t : State) → StandsFor old.hart t → TakesStepFrom old.hart.input t s new)
-      → ((t : State) (before : List Tuple) → StandsFor old.hart t → IsTimed old.hart before number → TakesTimes old.hart.input t before number s new) → MakesRow i input k n m s new
-  row-made lanes k n m number old paired new s program bytes is less made image same takes times =
-      replays-step i input k n m old.hart new s program bytes less made.replaying image same takes
-      (λ t before stands timed. subst (λ x. TakesTimes old.hart.input t before x s new) is (times t before stands (subst (IsTimed old.hart before) (sym is) timed)))
+      → ((t : State) (before : List Tuple) → StandsFor old.hart t → IsTimed old.hart before number → TakesTimes old.hart.input t before number filled new) → MakesRow i input k n m filled s new
+  row-made lanes k n m number old paired new filled s program bytes is less made image same takes times =
+      replays-step i input k n m old.hart new filled s program bytes less made.replaying image same takes
+      (λ t before stands timed. subst (λ x. TakesTimes old.hart.input t before x filled new) is (times t before stands (subst (IsTimed old.hart before) (sym is) timed)))
 
   -- ---- the length of rows
 

@@ -3,10 +3,12 @@
 ghost use Rattle.std.specs.Prelude.{◌≤◌, length, IfOk};
 
 use super::machine::{EXITS, OVERWRITE, file_of};
-use crate::hart::{Hart, Stepped};
+use crate::hart::Hart;
+use arrayvec::ArrayVec;
 use rv_base::machine::{EXIT, ILLEGAL_WORD};
 use rv_base::{Access, End, Place, TableEntry};
 use rv_elf::read;
+use rv_row::Row;
 use std::test::Fail;
 
 /// The accesses of `add x2, x2, x2` as the first step: slot, cell, old value, time of the use before, new value.
@@ -34,8 +36,16 @@ const LAST: [(u32, u32, u64); 5] = [
     (0x4000_0011, 93, 34),
 ];
 
-fn is_row(stepped: &Stepped, pc: u32, next: u32, accesses: &[(u8, u32, u32, u64, u32)]) -> bool {
-    let row = &stepped.row;
+/// A row to be replaced.
+fn no_row() -> Row {
+    Row {
+        pc: 0,
+        next: 0,
+        accesses: ArrayVec::new(),
+    }
+}
+
+fn is_row(row: &Row, pc: u32, next: u32, accesses: &[(u8, u32, u32, u64, u32)]) -> bool {
     let same = accesses
         .iter()
         .map(|(slot, cell, old, prev, new)| Access {
@@ -54,11 +64,12 @@ fn rows_have_times(rt: HostRuntime) -> Result<(), Fail> {
     let file = file_of(rt.alloc(), &[0x0021_0133])?;
     let image = read(file.as_slice())?;
     let mut hart = Hart::start(rt.alloc(), &image, &[]);
-    let first = hart.step(0)?;
-    assert!(rt; is_row(&first, 0x10000, 0x10004, &ADDITION));
+    let mut row = no_row();
+    let first = hart.step(0, &mut row)?;
+    assert!(rt; is_row(&row, 0x10000, 0x10004, &ADDITION));
     assert!(rt; first.end.is_none());
-    let second = hart.step(1)?;
-    assert!(rt; is_row(&second, 0x10004, 0x10004, &[(1, 0x4001, 0, 0, 0)]));
+    let second = hart.step(1, &mut row)?;
+    assert!(rt; is_row(&row, 0x10004, 0x10004, &[(1, 0x4001, 0, 0, 0)]));
     assert!(rt;
         second.end
             == Some(End {
@@ -74,12 +85,13 @@ fn a_fetch_sees_a_store(rt: HostRuntime) -> Result<(), Fail> {
     let file = file_of(rt.alloc(), &OVERWRITE)?;
     let image = read(file.as_slice())?;
     let mut hart = Hart::start(rt.alloc(), &image, &[]);
-    hart.step(0)?;
-    let store = hart.step(1)?;
-    assert!(rt; is_row(&store, 0x10004, 0x10008, &OVERWRITING));
-    hart.step(2)?;
-    let last = hart.step(3)?;
-    assert!(rt; is_row(&last, 0x10004, 0x10004, &[(1, 0x4001, 0, 22, 0)]));
+    let mut row = no_row();
+    hart.step(0, &mut row)?;
+    hart.step(1, &mut row)?;
+    assert!(rt; is_row(&row, 0x10004, 0x10008, &OVERWRITING));
+    hart.step(2, &mut row)?;
+    hart.step(3, &mut row)?;
+    assert!(rt; is_row(&row, 0x10004, 0x10004, &[(1, 0x4001, 0, 22, 0)]));
     Ok(())
 }
 
@@ -88,8 +100,9 @@ fn a_run_is_taken_up_from_its_cells(rt: HostRuntime) -> Result<(), Fail> {
     let file = file_of(rt.alloc(), &EXITS)?;
     let image = read(file.as_slice())?;
     let mut hart = Hart::start(rt.alloc(), &image, &[]);
-    hart.step(0)?;
-    hart.step(1)?;
+    let mut row = no_row();
+    hart.step(0, &mut row)?;
+    hart.step(1, &mut row)?;
     let place = Place {
         pc: hart.pc(),
         input: hart.position(),
@@ -97,7 +110,7 @@ fn a_run_is_taken_up_from_its_cells(rt: HostRuntime) -> Result<(), Fail> {
     };
     let cells = hart.touched()?;
     let mut later = Hart::resume(rt.alloc(), &image, &[], place, cells.as_slice())?;
-    let exit = later.step(2)?;
+    let exit = later.step(2, &mut row)?;
     assert!(rt;
         exit.end
             == Some(End {

@@ -12,12 +12,12 @@ pub returns-then-is_some-clause-ok : goal.returns-then-is_some-clause-ok
 returns-then-is_some-clause-ok c =
     let some = some-of c.take_step.new.self.ended c.if-is_some.ensures in
     skipped-some c.args.self.now c.take_step.new.self (c.loop-taken.taken + 1) c.args.most
-    (skipped-more c.args.self.now c.loop-taken.self c.take_step.new.self c.loop-taken.taken c.in_ok-take_step.field-0 c.loop-taken.invariant.skipped c.in_ok-take_step.ensures.ok) (omega arith) (λ none. absurd (let e = some.1 in cc))
+    (skipped-more c.args.self.now c.loop-taken.self c.take_step.new.self c.loop-taken.taken c.take_step.new.row c.loop-taken.invariant.skipped c.in_ok-take_step.ensures.ok) (omega arith) (λ none. absurd (let e = some.1 in cc))
 
 pub loop-taken-preserved : goal.loop-taken-preserved
 loop-taken-preserved c =
     record {
-      skipped = skipped-more c.args.self.now c.loop-taken.self c.take_step.new.self c.loop-taken.taken c.in_ok-take_step.field-0 c.loop-taken.invariant.skipped c.in_ok-take_step.ensures.ok;
+      skipped = skipped-more c.args.self.now c.loop-taken.self c.take_step.new.self c.loop-taken.taken c.take_step.new.row c.loop-taken.invariant.skipped c.in_ok-take_step.ensures.ok;
       going = none-of c.take_step.new.self.ended c.if-is_some.ensures;
     }
 

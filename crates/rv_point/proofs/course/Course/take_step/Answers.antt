@@ -1,5 +1,4 @@
-use Rattle.std.proofs.Common.{◌≡◌, ℕ, ◌+◌, ◌++◌, List, take, refl, ◌∙◌, ap}
-use Rattle.std.specs.Int.{w32, to_le_bytes}
+use Rattle.std.proofs.Common.{◌+◌, refl}
 use Rattle.rv_spec.specs.Run.{run}
 use Rattle.rv_spec.specs.Trace.{history}
 use Rattle.rv_point.proofs.CourseLaws.{row-taken}
@@ -11,6 +10,5 @@ returns-clause-ok c =
     let m = c.in_ok-taken.taken in
     let s = run old.hart.cells.image old.hart.input old.steps in
     let stands = c.requires.at.after.stands in
-    let put : c.extend_from_slice.new.self.items ≡ old.output.items ++ take m.put (to_le_bytes w32 m.word) = c.in_ok-extend_from_slice.ensures.items ∙ ap (λ (bytes : List ℕ). old.output.items ++ take m.put bytes) c.to_le_bytes-bytes.ensures in
-    row-taken old (record { hart = c.step.new.self; output = c.extend_from_slice.new.self; steps = old.steps + 1; ended = m.end }) m c.requires.at c.requires.going c.step.ensures.image c.step.ensures.input
-    (c.in_ok-taken.ensures.ok s stands) (c.in_ok-taken.ensures.times s (history old.hart.cells.image old.hart.input old.steps) stands c.requires.at.after.timed) put refl refl
+    row-taken old (record { hart = c.step.new.self; output = c.put.new.output; steps = old.steps + 1; ended = m.end }) c.step.new.row m c.requires.at c.requires.going c.step.ensures.image c.step.ensures.input
+    (c.in_ok-taken.ensures.ok s stands) (c.in_ok-taken.ensures.times s (history old.hart.cells.image old.hart.input old.steps) stands c.requires.at.after.timed) c.in_ok-put.ensures refl refl

@@ -15,8 +15,8 @@ returns-then-is_some-clause-ok c =
     let start = c.args.self.now in
     let before = c.args.entries.now.items in
     let some = some-of c.take_step.new.self.ended c.if-is_some.ensures in
-    let more = taken-more start c.loop-taken.self c.take_step.new.self c.loop-taken.taken before c.loop-taken.entries.items c.in_ok-row.row c.loop-taken.invariant.taken c.in_ok-row.ensures.ok in
-    let listed : c.loop-taken.entries.items ++ first_finds (time_of start.steps 0) c.in_ok-row.row.accesses.items ≡ c.list_firsts.new.entries.items =
+    let more = taken-more start c.loop-taken.self c.take_step.new.self c.loop-taken.taken before c.loop-taken.entries.items c.take_step.new.row c.loop-taken.invariant.taken c.in_ok-take_step.ensures.ok in
+    let listed : c.loop-taken.entries.items ++ first_finds (time_of start.steps 0) c.take_step.new.row.accesses.items ≡ c.list_firsts.new.entries.items =
     sym (c.in_ok-list_firsts.ensures ∙ (λ j. c.loop-taken.entries.items ++ first_finds (c.time_of-first.ensures j) (c.as_slice.ensures.value j))) in
     taken-ended start c.take_step.new.self c.loop-taken.taken c.args.most before c.list_firsts.new.entries.items some.0
     (subst (HasTaken start c.take_step.new.self (c.loop-taken.taken + 1) before) listed more) some.1 c.loop-taken-test.true
@@ -25,8 +25,8 @@ pub loop-taken-preserved : goal.loop-taken-preserved
 loop-taken-preserved c =
     let start = c.args.self.now in
     let before = c.args.entries.now.items in
-    let more = taken-more start c.loop-taken.self c.take_step.new.self c.loop-taken.taken before c.loop-taken.entries.items c.in_ok-row.row c.loop-taken.invariant.taken c.in_ok-row.ensures.ok in
-    let listed : c.loop-taken.entries.items ++ first_finds (time_of start.steps 0) c.in_ok-row.row.accesses.items ≡ c.list_firsts.new.entries.items =
+    let more = taken-more start c.loop-taken.self c.take_step.new.self c.loop-taken.taken before c.loop-taken.entries.items c.take_step.new.row c.loop-taken.invariant.taken c.in_ok-take_step.ensures.ok in
+    let listed : c.loop-taken.entries.items ++ first_finds (time_of start.steps 0) c.take_step.new.row.accesses.items ≡ c.list_firsts.new.entries.items =
     sym (c.in_ok-list_firsts.ensures ∙ (λ j. c.loop-taken.entries.items ++ first_finds (c.time_of-first.ensures j) (c.as_slice.ensures.value j))) in
     record {
       taken = subst (HasTaken start c.take_step.new.self (c.loop-taken.taken + 1) before) listed more;

@@ -12,7 +12,7 @@ use Rattle.rv_isa.specs.Hart.{row_from}
 use Rattle.rv_isa.specs.Look.{TellsStep}
 use Rattle.rv_isa.specs.Accesses.{accesses_of}
 use Rattle.rv_isa.proofs.HartLaws.{row-is}
-use Rattle.rv_isa.proofs.hart.Hart.row.Goals as goal
+use Rattle.rv_isa.proofs.hart.Hart.fill.Goals as goal
 
 abbrev Tells : HartState → Look → Type 0
 Tells h l = (s : State) → StandsFor h s → TellsStep h.input s l
@@ -23,9 +23,9 @@ returns c =
     let l : Look = c.args.look.now in
     let k = c.args.number in
     let tells : Tells h l = subst (λ (n : HartState). Tells n l) (sym c.self.view_is) c.requires.tells in
-    let made : c.row_accesses.result.items ≡ accesses_of h.cells k [] l.touches.list.items = c.row_accesses.ensures ∙ ap (λ (ts : List Touch). accesses_of h.cells k [] ts) c.as_slice.ensures.value in
+    let made : c.row_accesses.new.accesses.items ≡ accesses_of h.cells k [] l.touches.list.items = c.row_accesses.ensures ∙ ap (λ (ts : List Touch). accesses_of h.cells k [] ts) c.as_slice-touches.ensures.value in
     subst (λ (n : HartState). (s : State) (before : List Tuple) → StandsFor n s → IsTimed n before k
-    → row_view (record { pc = c.self.inside.pc; next = l.outcome.next; accesses = c.row_accesses.result }) ≡ row_from n.input s before k) c.self.view_is
+    → row_view (record { pc = c.self.inside.pc; next = l.outcome.next; accesses = c.row_accesses.new.accesses }) ≡ row_from n.input s before k) c.self.view_is
     (λ s before shows timed.
     (λ i. to_row (shows.pc i) ((tells s shows).next i) ((made ∙ row-is h l tells k s before shows timed) i)))
   where
