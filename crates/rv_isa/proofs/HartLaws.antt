@@ -22,6 +22,7 @@ use Rattle.rv_rules.specs.Agreement.{IsState, IsProgram, GoesAs, touch_of}
 use Rattle.rv_rules.specs.Membership.{In}
 use Rattle.rv_rules.proofs.Lemmas.{all-in, all-of, in-map-back}
 use Rattle.rv_mem.specs.Contents.{Contents, value_at, time_at}
+use Rattle.rv_mem.specs.Accesses.{accesses_of}
 use Rattle.rv_mem.specs.Left.{value_after, time_after, IsLeft}
 use Rattle.rv_isa.specs.declared.look.Look.{Look}
 use Rattle.rv_isa.specs.Represented.{AppendsExpected}
@@ -29,12 +30,12 @@ use Rattle.rv_isa.specs.Sees.{Sees}
 use Rattle.rv_isa.specs.HartState.{HartState, StandsFor, IsTimed, StandsForSome}
 use Rattle.rv_isa.specs.Hart.{left_after}
 use Rattle.rv_isa.specs.Look.{TellsStep}
-use Rattle.rv_isa.specs.Accesses.{accesses_of}
 use Rattle.rv_isa.proofs.Uses.{made}
 use Rattle.rv_isa.proofs.Slots.{all-within}
 use Rattle.rv_isa.proofs.Agreement.{expected-follows}
 use Rattle.rv_isa.proofs.States.{Stays, step-stays, start-is}
 use Rattle.rv_isa.proofs.Stepping.{SameVersion, step-version}
+use Rattle.rv_isa.proofs.EarlierUses.{step-reads}
 use Rattle.rv_isa.proofs.UsesAreCells.{uses-are-cells}
 use Rattle.rv_isa.proofs.LeftUses.{uses-rise, touches-made, values-left, use-bound, times-left, left-within, accesses-are, all-append, all-weaker}
 
@@ -227,11 +228,11 @@ module _ (h : HartState) (l : Look) (tells : (s : State) → StandsFor h s → T
           (left-within s (next_state h.input s) k 1 9 (step_uses h.input s) (all-within 1 9 (step_uses h.input s) (uses-rise h.input s))));
     }
 
-  pub row-is : (k : ℕ) (s : State) (before : List Tuple) → StandsFor h s → IsTimed h before k → accesses_of h.cells k [] ts ≡ map (access (left_after h.input s before k) k) (visits h.input s)
+  pub row-is : (k : ℕ) (s : State) (before : List Tuple) → StandsFor h s → IsTimed h before k → accesses_of (value_at h.cells) (time_at h.cells) k [] ts ≡ map (access (left_after h.input s before k) k) (visits h.input s)
   unfolding visits
   row-is k s before shows timed =
-      ap (accesses_of h.cells k []) (are-made s shows)
-      ∙ accesses-are s (next_state h.input s) k h.cells before timed.earlier (step_uses h.input s) 1 9 (uses-rise h.input s)
+      ap (accesses_of (value_at h.cells) (time_at h.cells) k []) (are-made s shows)
+      ∙ accesses-are s (next_state h.input s) k h.cells before timed.earlier (step_uses h.input s) 1 9 (uses-rise h.input s) (step-reads h.input s shows.ranges)
       (all-of (λ u. (value_at h.cells u.cell ≡ value s u.cell) × (time_at h.cells u.cell ≡ last_use before u.cell (time_of k 0))) (step_uses h.input s)
       (λ u m.
       let is : IsTrue (is_cell 2 u.cell) = cell-of s.version u.cell (all-in (λ u. IsTrue (is_cell s.version u.cell) × (u.cell < 2 ^ 30 + 33)) (step_uses h.input s) (uses-are-cells h.input s shows.ranges) u m).0 in

@@ -1,10 +1,10 @@
 -- What the uses of a step leave in a cell: its value, and the time of its last use.
-use Rattle.std.proofs.Common.{◌≡◌, ◌≢◌, ◌⊎◌, ℕ, ◌+◌, ◌<◌, ◌≤◌, max, Bool, true, false, cond, ◌&&◌, ◌==◌, nat_lt, nat_le, List, [], ◌∷◌, ◌++◌, map, filter, fold, Option, Some, None, option_map, unwrap_or, refl, sym, ◌∙◌, ap, ap₂, inl, inr, arith, append-nil, append_assoc}
+use Rattle.std.proofs.Common.{◌≡◌, ◌≢◌, ◌⊎◌, ℕ, ◌+◌, ◌<◌, ◌≤◌, max, Bool, true, false, cond, ◌&&◌, ◌==◌, nat_lt, nat_le, List, [], ◌∷◌, ◌++◌, map, filter, fold, Option, Some, None, option_map, unwrap_or, refl, sym, ◌∙◌, ap, ap₂, subst, inl, inr, arith, append-nil, append_assoc}
 use Rattle.std.specs.List.{AllByRecursion}
 use Rattle.std.specs.Option.{option_or}
 use Rattle.std.proofs.lemmas.Simd.{map-map}
 use Rattle.std.proofs.lemmas.List.{map-append}
-use Rattle.std.proofs.lemmas.Bool.{eqb-true, eqb-false, lt-ltb, le-ltb, leb-true}
+use Rattle.std.proofs.lemmas.Bool.{eqb-true, eqb-false, lt-ltb, le-ltb, le-leb, leb-true}
 use Rattle.rv_base.specs.declared.record.Access.{Access}
 use Rattle.rv_base.specs.declared.record.Touch.{Touch}
 use Rattle.rv_base.specs.declared.record.Tuple.{Tuple}
@@ -16,12 +16,13 @@ use Rattle.rv_spec.specs.Visits.{Use, step_uses, visit, visits}
 use Rattle.rv_spec.specs.Trace.{access, last_use, tuples_left}
 use Rattle.rv_rules.specs.Agreement.{touch_of}
 use Rattle.rv_rules.specs.Membership.{In}
-use Rattle.rv_rules.proofs.Lemmas.{all-in, all-of}
+use Rattle.rv_rules.proofs.Lemmas.{all-in, all-of, in-left, in-right}
 use Rattle.rv_mem.specs.Contents.{Contents, value_at, time_at}
 use Rattle.rv_mem.specs.Left.{last_touch, value_after, time_after}
-use Rattle.rv_isa.specs.Accesses.{access_of, accesses_of}
+use Rattle.rv_mem.specs.Accesses.{access_of, accesses_of}
 use Rattle.rv_isa.proofs.Uses.{made}
 use Rattle.rv_isa.proofs.Slots.{Rises, slots-rise, all-within, joined}
+use Rattle.rv_isa.proofs.EarlierUses.{ReadFirst}
 use Rattle.rv_isa.proofs.Frame.{Spares, step-keeps}
 use Rattle.rv_isa.proofs.LastUses.{after-kept}
 
@@ -237,21 +238,36 @@ module _ (s t : State) (k : ℕ) where
         ∙ sym (use-later (before ++ left ps) (left (u ∷ us)) u.cell (time_of k u.slot) late)
         ∙ ap (λ (l : List Tuple). last_use l u.cell (time_of k u.slot)) (append_assoc before (left ps) (left (u ∷ us)) ∙ ap (λ (l : List Tuple). before ++ l) (sym (left-append ps (u ∷ us))))
 
-    rest-are : (ps us : List Use) (mid hi : ℕ) → Rises 0 mid ps → Rises mid hi us → AllByRecursion Known us
-        → accesses_of m k (made s t ps) (made s t us) ≡ map (access (before ++ left (ps ++ us)) k) (map (visit s t) us)
-    rest-are ps [] mid hi p r known = refl
-    rest-are ps (u ∷ us) mid hi p r known =
-        let here : access_of m k (made s t ps) (touch_of (visit s t u)) ≡ access (before ++ left (ps ++ u ∷ us)) k (visit s t u) =
-        ap₂ (λ old prev. to-access u.slot u.cell old prev (visit s t u).new) known.0.0 (prev-is ps u us mid hi p r known.0) in
+    -- earlier uses of a cell left what they found
+    old-is : (ps : List Use) (u : Use) (us : List Use) (mid hi : ℕ) → Rises 0 mid ps → Rises mid hi (u ∷ us) → ReadFirst (ps ++ u ∷ us) → Known u
+        → value_after (made s t ps) u.cell (value_at m u.cell) ≡ value s u.cell
+    old-is ps u us mid hi p r first known =
+        ap (value_after (made s t ps) u.cell) known.0
+        ∙ elim (last-found s t u.cell ps 0 mid p) [
+          | inl none ↦ ap (λ o. unwrap_or (option_map (λ (x : Touch). x.new) o) (value s u.cell)) none.1
+          | inr l ↦
+              let v : Use = l.0 in
+              let early : v.slot < mid = (all-in (λ w. (0 ≤ w.slot) × (w.slot < mid)) ps (all-within 0 mid ps p) v l.1.0).1 in
+              let low : v.slot ≤ 5 = first v u (in-left v ps (u ∷ us) l.1.0) (in-right u ps (u ∷ us) (inl refl)) l.1.1 (omega (arith, early, r.0)) in
+              ap (λ o. unwrap_or (option_map (λ (x : Touch). x.new) o) (value s u.cell)) l.2
+              ∙ ap (λ b. cond b (value s v.cell) (value t v.cell)) (le-leb v.slot 5 low) ∙ ap (value s) l.1.1
+        ]
+
+    rest-are : (ps us : List Use) (mid hi : ℕ) → Rises 0 mid ps → Rises mid hi us → ReadFirst (ps ++ us) → AllByRecursion Known us
+        → accesses_of (value_at m) (time_at m) k (made s t ps) (made s t us) ≡ map (access (before ++ left (ps ++ us)) k) (map (visit s t) us)
+    rest-are ps [] mid hi p r first known = refl
+    rest-are ps (u ∷ us) mid hi p r first known =
+        let here : access_of (value_at m) (time_at m) k (made s t ps) (touch_of (visit s t u)) ≡ access (before ++ left (ps ++ u ∷ us)) k (visit s t u) =
+        ap₂ (λ old prev. to-access u.slot u.cell old prev (visit s t u).new) (old-is ps u us mid hi p r first known.0) (prev-is ps u us mid hi p r known.0) in
         let passed : made s t ps ++ touch_of (visit s t u) ∷ [] ≡ made s t (ps ++ u ∷ []) = sym (map-append (λ u. touch_of (visit s t u)) ps (u ∷ [])) in
         let whole : (ps ++ u ∷ []) ++ us ≡ ps ++ u ∷ us = append_assoc ps (u ∷ []) us in
         let more : Rises 0 (u.slot + 1) (ps ++ u ∷ []) = joined 0 mid (u.slot + 1) ps (u ∷ []) p (r.0, omega arith) in
         ap₂ (λ x xs. x ∷ xs) here
-        (ap (λ (l : List Touch). accesses_of m k l (made s t us)) passed ∙ rest-are (ps ++ u ∷ []) us (u.slot + 1) hi more r.1 known.1
+        (ap (λ (l : List Touch). accesses_of (value_at m) (time_at m) k l (made s t us)) passed ∙ rest-are (ps ++ u ∷ []) us (u.slot + 1) hi more r.1 (subst ReadFirst (sym whole) first) known.1
         ∙ ap (λ (l : List Use). map (access (before ++ left l) k) (map (visit s t) us)) whole)
       where
         to-access : ℕ → ℕ → ℕ → ℕ → ℕ → Access
         to-access slot cell old prev new = record { slot = slot; cell = cell; old = old; prev = prev; new = new }
 
-    pub accesses-are : (us : List Use) (lo hi : ℕ) → Rises lo hi us → AllByRecursion Known us → accesses_of m k [] (made s t us) ≡ map (access (before ++ left us) k) (map (visit s t) us)
-    accesses-are us lo hi r known = rest-are [] us lo hi (omega arith) r known
+    pub accesses-are : (us : List Use) (lo hi : ℕ) → Rises lo hi us → ReadFirst us → AllByRecursion Known us → accesses_of (value_at m) (time_at m) k [] (made s t us) ≡ map (access (before ++ left us) k) (map (visit s t) us)
+    accesses-are us lo hi r first known = rest-are [] us lo hi (omega arith) r first known

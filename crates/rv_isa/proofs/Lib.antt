@@ -21,6 +21,7 @@ pub mod Fetched
 pub mod Covered
 mod Seeing
 mod Placed
+mod EarlierUses
 mod Stepping
 mod LeftUses
 mod ExpectedCovers

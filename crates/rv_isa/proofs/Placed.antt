@@ -16,9 +16,9 @@ use Rattle.rv_rules.specs.Agreement.{IsState}
 use Rattle.rv_isa.proofs.Fields.{HasFields, HasAnyFields, any-decoded}
 use Rattle.rv_isa.proofs.WordRanges.{register-fits, sum-fits}
 
--- the cell is a word of memory in slot 6, and else a register or the reservation, but not x0; the reservation is of version 2
+-- the cell is a word of memory in slot 6, and else a register or the reservation, but not x0; a register in slot 7, and the reservation, which is of version 2, in slot 8
 abbrev pub IsPlaced : ℕ → Use → Type 0
-IsPlaced version u = (2 ≤ u.slot) × (u.slot < 9) × (u.slot ≡ 6 → u.cell < 2 ^ 30) × (¬ (u.slot ≡ 6) → (2 ^ 30 < u.cell) × (u.cell < 2 ^ 30 + 33)) × (u.cell ≡ reservation_cell → version ≡ 2)
+IsPlaced version u = (2 ≤ u.slot) × (u.slot < 9) × (u.slot ≡ 6 → u.cell < 2 ^ 30) × (¬ (u.slot ≡ 6) → (2 ^ 30 < u.cell) × (u.cell < 2 ^ 30 + 33)) × (u.cell ≡ reservation_cell → version ≡ 2) × (u.slot ≡ 7 → u.cell < 2 ^ 30 + 32) × (u.slot ≡ 8 → u.cell ≡ reservation_cell)
 
 abbrev pub ArePlaced : ℕ → List Use → Type 0
 ArePlaced version us = AllByRecursion (IsPlaced version) us
@@ -32,18 +32,18 @@ module _ (version : ℕ) where
   placed-cond true us vs h k = h
   placed-cond false us vs h k = k
 
-  placed-register : (j r : ℕ) → r < 32 → 2 ≤ j → j < 9 → ¬ (j ≡ 6) → ArePlaced version (use_register j r)
+  placed-register : (j r : ℕ) → r < 32 → 2 ≤ j → j < 8 → ¬ (j ≡ 6) → ArePlaced version (use_register j r)
   placed-register j r small lo hi other = go (r == 0) refl
     where
       go : (b : Bool) → (r == 0) ≡ b → ArePlaced version (cond b [] (use_of j (register_cell r)))
       go true z = tt
-      go false z = let some : ¬ (r ≡ 0) = eqb-false r 0 z in ((lo, hi, (λ six. absurd (other six)), (λ e. (omega arith, omega arith)), (λ e. absurd (omega (arith, e)))), tt)
+      go false z = let some : ¬ (r ≡ 0) = eqb-false r 0 z in ((lo, omega (arith, hi), (λ six. absurd (other six)), (λ e. (omega arith, omega arith)), (λ e. absurd (omega (arith, e))), (λ seven. omega arith), (λ eight. absurd (omega (arith, hi, eight)))), tt)
 
   placed-word : (a : ℕ) → a < 2 ^ 32 → ArePlaced version (use_of 6 (a / 4))
-  placed-word a small = ((omega arith, omega arith, (λ six. omega arith), (λ other. absurd (other refl)), (λ e. absurd (omega (arith, e)))), tt)
+  placed-word a small = ((omega arith, omega arith, (λ six. omega arith), (λ other. absurd (other refl)), (λ e. absurd (omega (arith, e))), (λ seven. absurd (omega (arith, seven))), (λ eight. absurd (omega (arith, eight)))), tt)
 
   placed-reservation : version ≡ 2 → ArePlaced version (use_of 8 reservation_cell)
-  placed-reservation two = ((omega arith, omega arith, (λ six. absurd (omega arith)), (λ other. (omega arith, omega arith)), (λ e. two)), tt)
+  placed-reservation two = ((omega arith, omega arith, (λ six. absurd (omega arith)), (λ other. (omega arith, omega arith)), (λ e. two), (λ seven. absurd (omega (arith, seven))), (λ eight. refl)), tt)
 
   ruleset placing = (placed-append, placed-cond, placed-register, placed-word, placed-reservation, sum-fits, register-fits)
 

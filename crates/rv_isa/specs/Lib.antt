@@ -13,5 +13,4 @@ pub mod HartState
 pub mod HartView
 pub mod Hart
 pub mod Resumed
-pub mod Accesses
 pub mod Look

@@ -10,13 +10,12 @@ ghost use Rattle.rv_spec.specs.Grammar.{IsRising};
 ghost use Rattle.rv_mem.specs.Contents.{IsTable};
 ghost use Rattle.rv_isa.specs.HartState.{StandsFor, IsTimed};
 ghost use Rattle.rv_isa.specs.Resumed.{IsKnown, HoldsListed, resumed};
-ghost use Rattle.rv_isa.specs.Hart.{TakesStepFrom, TakesTimes, left_after, row_from};
+ghost use Rattle.rv_isa.specs.Hart.{TakesStepFrom, TakesTimes};
 ghost use Rattle.rv_isa.specs.Look.{TellsStep};
-ghost use Rattle.rv_row.specs.RowReading.{row_view};
 
 use crate::expected::make;
 use crate::finding::find;
-use crate::look::{Look, row_accesses};
+use crate::look::Look;
 use crate::restoring::restore;
 use crate::step::Step;
 use rv_base::{End, NoMemory, Place, TableEntry};
@@ -135,8 +134,12 @@ impl<'a> Hart<'a> {
     {
         let mut look = Look::new();
         self.look(&mut look);
-        self.fill(number, &look, row);
-        self.carry_out(number, &look)?;
+        let touches = look.touches.list.as_slice();
+        self.cells.access(number, touches, &mut row.accesses)?;
+        row.pc = self.pc;
+        row.next = look.outcome.next;
+        self.pc = look.outcome.next;
+        self.position += u64::from(look.outcome.took);
         Ok(Stepped {
             end: look.outcome.end,
             took: look.outcome.took,
@@ -169,29 +172,15 @@ impl<'a> Hart<'a> {
         look.outcome = make(&step, &mut look.touches, found.decoded);
     }
 
-    /// Leaves the row of the next step, which was looked at, in place of another.
-    fn fill(&self, number: u64, look: &Look, row: &mut Row)
-        requires number { number < 2 ^ 32 }
-        requires tells { (s : State) → StandsFor self.now s → TellsStep self.now.input s look.now }
-        ensures { (s : State) (before : List TupleOf) → StandsFor self.now s → IsTimed self.now before number → row_view row.new ≡ row_from self.now.input s before number }
-    {
-        row.pc = self.pc;
-        row.next = look.outcome.next;
-        let touches = look.touches.list.as_slice();
-        row_accesses(&self.cells, number, touches, &mut row.accesses);
-    }
-
-    /// Takes the step that was looked at. Without memory nothing changes.
-    pub(crate) fn carry_out(&mut self, number: u64, look: &Look) -> Result<(), NoMemory>
-        requires number { number < 2 ^ 32 }
-        requires tells { (s : State) → StandsFor self.old s → TellsStep self.old.input s look.now }
+    /// Takes the step that was looked at, without a row. Its times tell nothing. Without memory nothing changes.
+    pub(crate) fn carry_out(&mut self, look: &Look) -> Result<(), NoMemory>
+        requires { (s : State) → StandsFor self.old s → TellsStep self.old.input s look.now }
         ensures image { self.new.cells.image ≡ self.old.cells.image }
         ensures input { self.new.input ≡ self.old.input }
         ensures ok { (s : State) → StandsFor self.old s → OnOk result (StandsFor self.new (next_state self.old.input s)) }
-        ensures times { (s : State) (before : List TupleOf) → StandsFor self.old s → IsTimed self.old before number → OnOk result (IsTimed self.new (left_after self.old.input s before number) (number + 1)) }
         ensures err { OnErr result (self.new ≡ self.old) }
     {
-        self.cells.leave(number, look.touches.list.as_slice())?;
+        self.cells.leave(0, look.touches.list.as_slice())?;
         self.pc = look.outcome.next;
         self.position += u64::from(look.outcome.took);
         Ok(())

@@ -137,12 +137,12 @@ fn carry_out(hart: &mut Hart<'_>, output: &mut Vec<u8>, look: &Look) -> Result<(
     ensures err { OnErr result ((hart.new ≡ hart.old) × (output.new.items ≡ output.old.items)) }
 {
     if look.outcome.put == 0 {
-        return hart.carry_out(0, look);
+        return hart.carry_out(look);
     }
     let length = output.len();
     let bytes = look.outcome.word.to_le_bytes();
     output.extend_from_slice(&bytes[..look.outcome.put as usize])?;
-    let carried = hart.carry_out(0, look);
+    let carried = hart.carry_out(look);
     if carried.is_err() {
         output.truncate(length);
     }

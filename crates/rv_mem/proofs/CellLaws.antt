@@ -10,15 +10,14 @@ use Rattle.std.proofs.lemmas.List.Folds.{find-append}
 use Rattle.rv_base.specs.declared.record.TableEntry.{TableEntry}
 use Rattle.rv_base.specs.declared.record.Touch.{Touch}
 use Rattle.rv_spec.specs.Elf.{Image}
-use Rattle.rv_spec.specs.Words.{word}
-use Rattle.rv_spec.specs.Step.{register}
-use Rattle.rv_spec.specs.Cells.{value, initial_value, is_cell, reservation_cell, time_of}
+use Rattle.rv_spec.specs.Cells.{initial_value, is_cell, reservation_cell, time_of}
 use Rattle.rv_spec.specs.Grammar.{IsRising}
 use Rattle.rv_rules.proofs.Lemmas.{initial-register}
 use Rattle.rv_mem.specs.declared.word.Word.{Word}
 use Rattle.rv_mem.specs.declared.words.Words.{Words}
 use Rattle.rv_mem.specs.Contents.{Contents, entry_at, value_at, time_at, IsSet, IsTable}
 use Rattle.rv_mem.specs.Left.{last_touch, value_after, time_after, IsLeft}
+use Rattle.rv_mem.specs.Accesses.{accesses_of}
 use Rattle.rv_mem.specs.Used.{no_word, if_used, used, listed_word}
 use Rattle.rv_mem.specs.Words.{first_word}
 use Rattle.rv_mem.specs.StoredCells.{stored_word, stored_cell, contents, AreStoredCells, word_after}
@@ -280,6 +279,18 @@ module _ (m n : Words) (r s : List Word) (step : ℕ) (ts : List Touch) (begun :
       times : (c : ℕ) → (c < 1073741857) ⊎ (1073741857 ≤ c) → time_at (contents n s) c ≡ time_after step ts c (time_at (contents m r) c)
       times c (inl l) = time-kept n s c l ∙ ap (λ (v : Word). v.time) (left c l) ∙ ap (time_after step ts c) (sym (time-kept m r c l))
       times c (inr l) = time-beyond n s c l ∙ sym (time-beyond m r c l) ∙ sym (ap (λ o. unwrap_or (option_map (λ (t : Touch). time_of step t.slot) o) (time_at (contents m r) c)) (beyond c l))
+
+-- the accesses of touches, from the cells as they are kept once the pages are made
+pub held-before : (m n : Words) (r : List Word) (step : ℕ) → AreStoredCells m r → ((c : ℕ) → c < 2 ^ 30 → stored_word n c ≡ stored_word m c)
+    → (earlier ts : List Touch) → AllByRecursion (λ t. t.cell < 1073741857) ts
+    → accesses_of (λ c. (stored_cell n r c).value) (λ c. (stored_cell n r c).time) step earlier ts ≡ accesses_of (value_at (contents m r)) (time_at (contents m r)) step earlier ts
+held-before m n r step begun same earlier [] h = refl
+held-before m n r step begun same earlier (t ∷ ts) h =
+    let here : stored_cell n r t.cell ≡ stored_cell m r t.cell = same-cells m n r same t.cell in
+    let value = ap (λ (w : Word). w.value) here ∙ sym (value-kept m r t.cell begun h.0) in
+    let time = ap (λ (w : Word). w.time) here ∙ sym (time-kept m r t.cell h.0) in
+    λ i. record { slot = t.slot; cell = t.cell; old = value_after earlier t.cell (value i); prev = time_after step earlier t.cell (time i); new = t.new }
+    ∷ held-before m n r step begun same (earlier ++ t ∷ []) ts h.1 i
 
 -- ---- the cells before the first step
 

@@ -1,13 +1,17 @@
 -- What touches leave in a cell, touch by touch.
-use Rattle.std.proofs.Common.{◌≡◌, ◌≢◌, ◌⊎◌, ℕ, ◌+◌, ◌<◌, Bool, true, false, cond, ◌==◌, List, [], ◌∷◌, ◌++◌, length, take, get_or, Option, Some, None, option_map, unwrap_or, refl, sym, ◌∙◌, ap, inl, inr}
+use Rattle.std.proofs.Common.{◌≡◌, ◌≢◌, ◌⊎◌, ℕ, ◌+◌, ◌<◌, Bool, true, false, cond, ◌==◌, List, [], ◌∷◌, ◌++◌, length, take, drop, get_or, Option, Some, None, option_map, unwrap_or, refl, sym, ◌∙◌, ap, inl, inr, append_assoc}
 use Rattle.std.proofs.lemmas.Bool.{eq-eqb, ne_eqb}
-use Rattle.std.proofs.lemmas.List.{take_more}
+use Rattle.std.proofs.lemmas.List.{take_more, drop_more}
+use Rattle.std.specs.List.{AllByRecursion}
 use Rattle.std.specs.Option.{option_or}
+use Rattle.rv_base.specs.declared.record.Access.{Access}
 use Rattle.rv_base.specs.declared.record.Touch.{Touch}
 use Rattle.rv_spec.specs.Cells.{time_of}
 use Rattle.rv_mem.specs.declared.word.Word.{Word}
+use Rattle.rv_mem.specs.declared.words.Words.{Words}
 use Rattle.rv_mem.specs.Left.{last_touch}
-use Rattle.rv_mem.specs.StoredCells.{word_after}
+use Rattle.rv_mem.specs.Accesses.{access_of, accesses_of}
+use Rattle.rv_mem.specs.StoredCells.{word_after, HasPage}
 use Rattle.rv_mem.proofs.WordsLaws.{equal-or-not}
 
 -- a further touch is the last one of its cell
@@ -39,3 +43,16 @@ after-more step ts i c d w old new h before here other = by (equal-or-not c (get
     by : (c ≡ (get_or ts i d).cell) ⊎ (c ≢ (get_or ts i d).cell) → new ≡ word_after step (take (i + 1) ts) c w
     by (inl e) = here e ∙ more true (eq-eqb (get_or ts i d).cell c (sym e))
     by (inr n) = other n ∙ before ∙ more false (ne_eqb (get_or ts i d).cell c (λ e. n (sym e)))
+
+-- the pages of touched cells stay
+pub still-made : (m n : Words) (ts : List Touch) → ((c : ℕ) → HasPage m c → HasPage n c) → AllByRecursion (λ t. HasPage m t.cell) ts → AllByRecursion (λ t. HasPage n t.cell) ts
+still-made m n [] kept made = tt
+still-made m n (t ∷ ts) kept made = (kept t.cell made.0, still-made m n ts kept made.1)
+
+-- one access more
+pub accesses-more : (values times : ℕ → ℕ) (step : ℕ) (ts : List Touch) (i : ℕ) (d : Touch) (before all : List Access) (a : Access) → i < length ts → a ≡ access_of values times step (take i ts) (get_or ts i d)
+    → before ++ accesses_of values times step (take i ts) (drop i ts) ≡ all → (before ++ a ∷ []) ++ accesses_of values times step (take (i + 1) ts) (drop (i + 1) ts) ≡ all
+accesses-more values times step ts i d before all a h is are =
+    append_assoc before (a ∷ []) (accesses_of values times step (take (i + 1) ts) (drop (i + 1) ts))
+    ∙ (λ t. before ++ is t ∷ accesses_of values times step (take_more ts i d h t) (drop (i + 1) ts))
+    ∙ ap (λ (l : List Touch). before ++ accesses_of values times step (take i ts) l) (sym (drop_more ts i d h)) ∙ are

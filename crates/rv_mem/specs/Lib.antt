@@ -8,3 +8,4 @@ pub mod StoredCells
 pub mod Used
 pub mod Words
 pub mod Left
+pub mod Accesses

@@ -1,18 +1,20 @@
 //! The memory, the registers and the reservation of a run.
 
-ghost use Rattle.std.specs.Prelude.{◌≡◌, ◌<◌, ◌^◌, [], IsTrue, IfOk, OnOk, OnErr};
+ghost use Rattle.std.specs.Prelude.{◌≡◌, ◌<◌, ◌≤◌, ◌^◌, [], length, IsTrue, IfOk, OnOk, OnErr};
 ghost use Rattle.std.specs.List.{AllByRecursion};
 ghost use Rattle.rv_spec.specs.Cells.{is_cell};
 ghost use Rattle.rv_rules.specs.Agreement.{IsProgram};
 ghost use Rattle.rv_mem.specs.Contents.{value_at, time_at, IsSet, IsTable};
 ghost use Rattle.rv_mem.specs.Left.{IsLeft};
+ghost use Rattle.rv_mem.specs.Accesses.{accesses_of};
 
-use crate::leaving::{leave_all, put, reserve_page, reserve_pages};
+use crate::leaving::{access_all, exchange, leave_all, reserve_page, reserve_pages};
 use crate::page::list_used;
 use crate::word::Word;
 use crate::words::Words;
-use rv_base::cells::{REGISTER_CELLS, STACK_TOP};
-use rv_base::{NoMemory, TableEntry, Touch};
+use arrayvec::ArrayVec;
+use rv_base::cells::{REGISTER_CELLS, SLOTS, STACK_TOP};
+use rv_base::{Access, NoMemory, TableEntry, Touch};
 use rv_elf::Image;
 use std::alloc::Global;
 use std::marker::Model;
@@ -89,7 +91,7 @@ impl<'a> Memory<'a> {
     {
         reserve_page(&mut self.words, cell)?;
         let word = Word { value, time };
-        put(&mut self.words, &mut self.registers, cell, word);
+        exchange(&mut self.words, &mut self.registers, cell, word);
         Ok(())
     }
 
@@ -104,6 +106,34 @@ impl<'a> Memory<'a> {
     {
         reserve_pages(&mut self.words, touches)?;
         leave_all(&mut self.words, &mut self.registers, step, touches);
+        Ok(())
+    }
+
+    /// Leaves the uses of a step in the cells, as `leave` does, and puts their accesses in the place of others: each
+    /// has what its cell held, and the time of its last use, after the earlier touches of the step. Without memory
+    /// no cell changes.
+    pub fn access(
+        &mut self,
+        step: u64,
+        touches: &[Touch],
+        accesses: &mut ArrayVec<Access, SLOTS>,
+    ) -> Result<(), NoMemory>
+        requires step { step < 2 ^ 32 }
+        requires cells { AllByRecursion (λ t. IsTrue (is_cell 2 t.cell)) touches.now }
+        requires slots { AllByRecursion (λ t. 0 < t.slot) touches.now }
+        requires most { length touches.now ≤ 8 }
+        ensures ok { OnOk result (IsLeft self.old self.new step touches.now) }
+        ensures accesses { OnOk result (accesses.new.items ≡ accesses_of (value_at self.old) (time_at self.old) step [] touches.now) }
+        ensures err { OnErr result (self.new ≡ self.old) }
+    {
+        reserve_pages(&mut self.words, touches)?;
+        access_all(
+            &mut self.words,
+            &mut self.registers,
+            step,
+            touches,
+            accesses,
+        );
         Ok(())
     }
 

@@ -75,19 +75,22 @@ impl<'a> Words<'a> {
         Ok(())
     }
 
-    /// Gives word `w` of memory, whose page was made, a value and a time.
-    pub fn put(&mut self, w: u32, word: Word)
+    /// Gives word `w` of memory, whose page was made, a value and a time, and answers what it held.
+    pub fn exchange(&mut self, w: u32, word: Word) -> Word
         requires in_memory { w < REGISTER_CELLS }
         requires made { 0 < page_number self.old.directory (w / 16) }
         ensures image { self.new.image ≡ self.old.image }
         ensures directory { self.new.directory ≡ self.old.directory }
         ensures set { stored_word self.new w ≡ word }
         ensures others { (other : ℕ) → other < REGISTER_CELLS → other ≢ w → stored_word self.new other ≡ stored_word self.old other }
+        ensures held { result ≡ stored_word self.old w }
     {
         let Some(index) = self.directory.find(w as usize / 16) else {
             unreachable!();
         };
+        let held = self.pages[index].words[w as usize % 16];
         self.pages[index].words[w as usize % 16] = word;
+        held
     }
 
     /// Makes a page with the words of the image.

@@ -3,7 +3,7 @@ use Rattle.std.proofs.lemmas.Bool.{cases_lt}
 use Rattle.std.proofs.lemmas.List.{get_or-replicate, get_or_past}
 use Rattle.rv_mem.specs.declared.directory.Recent.{Recent}
 use Rattle.rv_mem.specs.declared.levels.Levels.{Levels}
-use Rattle.rv_mem.specs.Recent.{no_recent, IsRecent, AreRecent}
+use Rattle.rv_mem.specs.Recent.{no_recent, AreRecent}
 use Rattle.rv_mem.proofs.directory.Directory.new.Goals as goal
 
 none-told : (k : ℕ) → get_or (replicate 64 no_recent) k no_recent ≡ no_recent

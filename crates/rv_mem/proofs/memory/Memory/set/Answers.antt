@@ -13,13 +13,13 @@ returns-in_err-reserve_page-clause-err c =
     on-err c.from_residual.result _
     (same-contents c.self.inside.words c.reserve_page.new.words c.self.inside.registers c.reserve_page.ensures.image c.reserve_page.ensures.same ∙ c.self.view_is)
 
-changed : (c : goal.After-put) → IsChange c.self.inside.words c.put.new.words c.self.inside.registers c.put.new.registers c.args.cell (record { value = c.args.value; time = c.args.time })
+changed : (c : goal.After-exchange) → IsChange c.self.inside.words c.exchange.new.words c.self.inside.registers c.exchange.new.registers c.args.cell (record { value = c.args.value; time = c.args.time })
 changed c = record {
-  image = c.put.ensures.image ∙ c.reserve_page.ensures.image;
-  full = c.put.ensures.full;
+  image = c.exchange.ensures.image ∙ c.reserve_page.ensures.image;
+  full = c.exchange.ensures.full;
   is_cell = c.requires.cell;
-  here = c.put.ensures.set;
-  others = λ k within apart. c.put.ensures.others k within apart ∙ same-cells c.self.inside.words c.reserve_page.new.words c.self.inside.registers c.reserve_page.ensures.same k;
+  here = c.exchange.ensures.set;
+  others = λ k within apart. c.exchange.ensures.others k within apart ∙ same-cells c.self.inside.words c.reserve_page.new.words c.self.inside.registers c.reserve_page.ensures.same k;
 }
 
 pub invariant_of-self-2 : goal.invariant_of-self-2
@@ -28,5 +28,5 @@ invariant_of-self-2 c = begun-changed _ _ _ _ c.args.cell _ c.self.invariant c.r
 pub returns-clause-ok : goal.returns-clause-ok
 returns-clause-ok c =
     let word : Word = record { value = c.args.value; time = c.args.time } in
-    subst (λ (m : Contents). IsSet m (contents c.put.new.words c.put.new.registers) c.args.cell c.args.value c.args.time) c.self.view_is
-    (set-changed c.self.inside.words c.put.new.words c.self.inside.registers c.put.new.registers c.args.cell word c.self.invariant (invariant_of-self-2 c) (cell-within _ c.requires.cell) (changed c))
+    subst (λ (m : Contents). IsSet m (contents c.exchange.new.words c.exchange.new.registers) c.args.cell c.args.value c.args.time) c.self.view_is
+    (set-changed c.self.inside.words c.exchange.new.words c.self.inside.registers c.exchange.new.registers c.args.cell word c.self.invariant (invariant_of-self-2 c) (cell-within _ c.requires.cell) (changed c))
