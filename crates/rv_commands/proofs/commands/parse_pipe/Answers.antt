@@ -1,4 +1,4 @@
-use Rattle.std.proofs.Common.{ap, sym, ◌∙◌, arith, map, Global, string_bytes, Some}
+use Rattle.std.proofs.Common.{ap, sym, ◌∙◌, Global, string_bytes, Some}
 use Rattle.rv_commands.specs.CommandLine.{number, pipe_words}
 use Rattle.rv_commands.proofs.Arguments.{no-waiting, piped-words}
 use Rattle.rv_commands.proofs.commands.parse_pipe.Goals as goal

@@ -1,5 +1,4 @@
 use Rattle.std.proofs.Common.{arith, ◌∙◌}
-use Rattle.rv_commands.specs.Commands.{make_words}
 use Rattle.rv_commands.proofs.pipe.ended_of.Goals as goal
 
 pub returns-clause-ended : goal.returns-clause-ended
