@@ -1,12 +1,11 @@
 -- What state and cell do, as their plans say, and what their success says.
-use Rattle.std.proofs.Common.{◌≡◌, ◌≢◌, ◌⊎◌, ◌<◌, inl, inr, ℕ, List, [], Option, Some, None, Ok, Err, Result, IfOk, Bool, true, false, nat_lt, refl, sym, ap, subst, ◌∙◌, option_map, MatchResult, if◌then◌else◌}
+use Rattle.std.proofs.Common.{◌≡◌, ◌⊎◌, ◌<◌, inl, inr, ℕ, List, [], Option, Some, None, Ok, Err, Result, IfOk, nat_lt, refl, sym, ap, subst, ◌∙◌, option_map, MatchResult, if◌then◌else◌}
 use Rattle.std.proofs.lemmas.Bool.{ltb-true, eqb-false}
 use Rattle.std.proofs.lemmas.Option.{cond_some}
 use Rattle.rv_base.specs.declared.limits.TheConstants.{RECORD_LIMIT}
 use Rattle.rv_base.specs.declared.record.End.{End}
 use Rattle.rv_base.specs.declared.record.Refusal.{Refusal}
-use Rattle.rv_base.specs.declared.record.Verdict.{Verdict}
-use Rattle.rv_base.specs.declared.record.Verdict.TheVariants.{Accept, Refuse}
+use Rattle.rv_base.specs.declared.record.Verdict.TheVariants.{Accept}
 use Rattle.rv_spec.specs.Elf.{first_fault}
 use Rattle.rv_spec.specs.Digest.{sha_lanes}
 use Rattle.rv_spec.specs.Record.{Parts}

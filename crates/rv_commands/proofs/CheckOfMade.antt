@@ -1,4 +1,4 @@
--- The record that make made is accepted by check, over told files whose reading never fails.
+-- The record that make or pipe made is accepted by check, over told files whose reading never fails.
 use Rattle.std.proofs.Common.{◌≡◌, ◌≢◌, ◌⊎◌, ◌≤◌, inl, inr, ℕ, List, [], ◌∷◌, length, Option, Some, None, Bool, true, false, nat_lt, refl, sym, ap, subst, ◌∙◌, length-append, arith, option_map, if◌then◌else◌}
 use Rattle.std.specs.Int.{div_ceil}
 use Rattle.std.proofs.lemmas.Bool.{eqb-false, le-ltb}
@@ -20,11 +20,11 @@ use Rattle.rv_plan.specs.declared.faults.Limited.TheVariants as limited
 use Rattle.rv_plan.specs.declared.faults.Fault.{Fault}
 use Rattle.rv_plan.specs.declared.faults.Fault.TheVariants.{Limit}
 use Rattle.rv_plan.proofs.Lemmas.{reaches-told}
-use Rattle.rv_commands.specs.CommandLine.{MakeWords, CheckWords, CommandWords, make, check, settle, run, explain, trial, state, cell, split, join, asm, upgrade}
-use Rattle.rv_commands.specs.CheckOfMade.{IsCheckOf}
+use Rattle.rv_commands.specs.CommandLine.{MakeWords, CheckWords, CommandWords, make, pipe, check, settle, run, explain, trial, state, cell, split, join, asm, upgrade}
+use Rattle.rv_commands.specs.CheckOfMade.{IsCheckOf, IsCheckOfFiles}
 use Rattle.rv_commands.specs.Headline.{Headline, Made}
 use Rattle.rv_commands.specs.Lines.{accepted_line}
-use Rattle.rv_commands.specs.Outcome.{check_plan, make_plan, plan, plan_of, read_record, tells, told_verdict}
+use Rattle.rv_commands.specs.Outcome.{check_plan, make_plan, making_plan, plan, plan_of, read_record, tells, told_verdict}
 use Rattle.rv_commands.proofs.Unread.{none-fails}
 
 -- ---- a plan that reads a program, over told files
@@ -82,7 +82,7 @@ record IsMade (w : MakeWords) (files made : Files) : Type 0 where
   accepted : (o : Outcome) × (told_verdict (verdict sha_lanes (file made w.elf) (file made w.input) (file made w.target)) ≡ o) × (o.status ≡ 0) × (o.writes ≡ [])
   short : length (file made w.target) ≤ RECORD_LIMIT
 
-is-made : (w : MakeWords) (s s' : ShelfView) (files : Files) → s.files ≡ Some files → w.target ≢ w.elf → w.target ≢ w.input → (outcome_over files (plan_of (make w))).status ≡ 0 → Made s s' w → (made : Files) × (s'.files ≡ Some made) × IsMade w files made
+is-made : (w : MakeWords) (s s' : ShelfView) (files : Files) → s.files ≡ Some files → w.target ≢ w.elf → w.target ≢ w.input → (outcome_over files (making_plan w)).status ≡ 0 → Made s s' w → (made : Files) × (s'.files ≡ Some made) × IsMade w files made
 is-made w s s' files told apart_elf apart_input success h =
     let bytes = record_file sha_lanes w.version h.elf h.input w.shard h.steps h.end in
     let made : Files = with_file files w.target bytes in
@@ -141,8 +141,8 @@ printed-whole t t' status text result silent (torn _ rose _) = absurd (silent ro
 
 -- ---- both commands
 
-both : (w : MakeWords) (c : CheckWords) (s s' s'' : ShelfView) (t t' u u' : SinkView) (files : Files) (n : ℕ) → IsCheckOf (Some (check c)) (Some (make w)) → s.files ≡ Some files → ((name : List ℕ) → Rose (s'.read_faults name) (s''.read_faults name) → ⊥)
-    → (Rose u.faults u'.faults → ⊥) → Answers (plan (Some (make w))) s s' t t' 0 → Made s s' w → Answers (plan (Some (check c))) s' s'' u u' n → (n ≡ 0) ⊎ (n ≡ 7)
+both : (w : MakeWords) (c : CheckWords) (s s' s'' : ShelfView) (t t' u u' : SinkView) (files : Files) (n : ℕ) → IsCheckOfFiles c w → s.files ≡ Some files → ((name : List ℕ) → Rose (s'.read_faults name) (s''.read_faults name) → ⊥)
+    → (Rose u.faults u'.faults → ⊥) → Answers (making_plan w) s s' t t' 0 → Made s s' w → Answers (plan (Some (check c))) s' s'' u u' n → (n ≡ 0) ⊎ (n ≡ 7)
 both w c s s' s'' t t' u u' files n asked told calm silent answers h answers' =
     let success = answers.told files told (eqb-false 0 5 refl) (eqb-false 0 6 refl) (eqb-false 0 7 refl) in
     let made = is-made w s s' files told asked.3 asked.4 (sym success.status) h in
@@ -158,6 +158,7 @@ pub check-of-made : (made checked : Option CommandWords) (s s' s'' : ShelfView) 
     → (Rose u.faults u'.faults → ⊥) → Answers (plan made) s s' t t' m → (m ≡ 0 → Headline made s s') → Answers (plan checked) s' s'' u u' n → m ≡ 0 → (n ≡ 0) ⊎ (n ≡ 7)
 check-of-made made None s s' s'' t t' u u' files m n asked = absurd asked
 check-of-made made (Some (make c)) s s' s'' t t' u u' files m n asked = absurd asked
+check-of-made made (Some (pipe c)) s s' s'' t t' u u' files m n asked = absurd asked
 check-of-made made (Some (settle c)) s s' s'' t t' u u' files m n asked = absurd asked
 check-of-made made (Some (run c)) s s' s'' t t' u u' files m n asked = absurd asked
 check-of-made made (Some (explain c)) s s' s'' t t' u u' files m n asked = absurd asked
@@ -181,4 +182,6 @@ check-of-made (Some (split w)) (Some (check c)) s s' s'' t t' u u' files m n ask
 check-of-made (Some (asm w)) (Some (check c)) s s' s'' t t' u u' files m n asked = absurd asked
 check-of-made (Some (upgrade w)) (Some (check c)) s s' s'' t t' u u' files m n asked = absurd asked
 check-of-made (Some (make w)) (Some (check c)) s s' s'' t t' u u' files m n asked = λ told calm silent answers headline answers' zero.
-    both w c s s' s'' t t' u u' files n asked told calm silent (subst (Answers (plan (Some (make w))) s s' t t') zero answers) (headline zero) answers'
+    both w c s s' s'' t t' u u' files n asked told calm silent (subst (Answers (making_plan w) s s' t t') zero answers) (headline zero) answers'
+check-of-made (Some (pipe w)) (Some (check c)) s s' s'' t t' u u' files m n asked = λ told calm silent answers headline answers' zero.
+    both w.make c s s' s'' t t' u u' files n asked told calm silent (subst (Answers (making_plan w.make) s s' t t') zero answers) (headline zero) answers'

@@ -29,7 +29,7 @@ use Rattle.rv_plan.proofs.Lemmas.{left, nothing-written, performs-behind, perfor
 use Rattle.rv_commands.specs.CommandLine.{CheckWords, SettleWords, check, settle}
 use Rattle.rv_commands.specs.Headline.{Accepted, IsRecordOfRun, Settled}
 use Rattle.rv_commands.specs.Judging.{Judges, TellsOutcome, settled_outcome}
-use Rattle.rv_commands.specs.Outcome.{denies, tells, told_verdict, settled, settled_by, read_record, plan_of}
+use Rattle.rv_commands.specs.Outcome.{denies, told_verdict, settled, settled_by, read_record, plan_of}
 use Rattle.rv_commands.specs.Lines.{collision_line}
 use Rattle.rv_commands.proofs.Differing.{least-is, none-differs}
 

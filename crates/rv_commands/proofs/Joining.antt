@@ -1,5 +1,5 @@
 -- What join does, as its plan says, and what its success says.
-use Rattle.std.proofs.Common.{◌≡◌, ◌≤◌, ◌<◌, ◌⊎◌, inl, inr, ℕ, zero, suc, ◌+◌, ◌-◌, Bool, true, false, not, ◌&&◌, ◌||◌, ◌==◌, nat_le, bytes_eq, List, [], ◌∷◌, ◌++◌, length, map, take, drop, Option, Some, None, Ok, Err, Result, IfOk, MatchOption, MatchResult, refl, sym, ap, subst, ◌∙◌, append_assoc, append-nil, length-append, arith, if◌then◌else◌}
+use Rattle.std.proofs.Common.{◌≡◌, ◌≤◌, ◌<◌, ℕ, zero, suc, ◌+◌, ◌-◌, Bool, true, false, not, ◌&&◌, ◌||◌, ◌==◌, nat_le, bytes_eq, List, [], ◌∷◌, ◌++◌, length, map, take, drop, Option, Some, None, Ok, Err, Result, IfOk, MatchOption, MatchResult, refl, sym, ap, subst, ◌∙◌, append_assoc, append-nil, length-append, arith, if◌then◌else◌}
 use Rattle.std.specs.Borrow.{Bor}
 use Rattle.std.specs.List.{concat}
 use Rattle.std.proofs.lemmas.Bool.{and_parts, eq-eqb, eqb-false, eqb-true, false_from_ne_true, le-leb, leb-true}
@@ -20,7 +20,7 @@ use Rattle.rv_rules.specs.Verdict.{verdict}
 use Rattle.rv_file.specs.Front.{front_length, is_record}
 use Rattle.rv_file.proofs.Lemmas.{unless-ok}
 use Rattle.rv_reading.specs.Judging.{IsFront}
-use Rattle.rv_judge.specs.Subject.{IsChecked, Subject}
+use Rattle.rv_judge.specs.Subject.{IsChecked}
 use Rattle.rv_judge.specs.Held.{IsWholeFront}
 use Rattle.rv_judge.specs.Conclusions.{IsSound, VerdictsAreSound}
 use Rattle.rv_judge.proofs.Lemmas.{header-checked, whole-front, header-taken}
@@ -35,9 +35,9 @@ use Rattle.rv_parts.specs.Cutting.{whole}
 use Rattle.rv_parts.specs.Heads.{head_in}
 use Rattle.rv_parts.specs.Joining.{AreFaultless, Part as PartRead, SummariesTellVerdict, behind_front}
 use Rattle.rv_parts.specs.Summaries.{Summarizes, is_cut, is_last}
-use Rattle.rv_plan.specs.Plan.{Outcome, Plan, answer, refuses}
+use Rattle.rv_plan.specs.Plan.{Plan, answer, refuses}
 use Rattle.rv_plan.specs.Endings.{IsContents}
-use Rattle.rv_plan.specs.FileCalls.{IsUnchanged, Loads, Performs, PerformsBehind, ReadsWithin, Stops}
+use Rattle.rv_plan.specs.FileCalls.{IsUnchanged, Loads, Performs, PerformsBehind, ReadsWithin}
 use Rattle.rv_plan.specs.declared.faults.Fault.{Fault}
 use Rattle.rv_plan.specs.declared.faults.Fault.TheVariants as fault
 use Rattle.rv_plan.specs.declared.faults.PartFault.{PartFault}
@@ -45,7 +45,7 @@ use Rattle.rv_plan.specs.declared.faults.PartFault.TheVariants as part
 use Rattle.rv_plan.specs.declared.faults.Limited.TheVariants as limited
 use Rattle.rv_plan.specs.declared.loading.Loaded.{Loaded}
 use Rattle.rv_plan.specs.declared.told.Told.{Told}
-use Rattle.rv_plan.proofs.Lemmas.{left, performs-behind, performs-loaded, performs-read, read-stops}
+use Rattle.rv_plan.proofs.Lemmas.{performs-behind, performs-loaded, performs-read, read-stops}
 use Rattle.rv_commands.specs.CommandLine.{JoinWords, join}
 use Rattle.rv_commands.specs.Headline.{AreParts, JoinedParts}
 use Rattle.rv_commands.specs.Joining.{AddsFile, AddsPart, BeginsParts, IsJoined, IsJoining, JoinsParts, ReadsFirst, ReadsPart, opened_of, part_of}

@@ -2,5 +2,5 @@
 
 -- over files that tell nothing and whose reads never fail, no answer is that of a failed read
 pub use Rattle.rv_commands.proofs.Unread.{calm-answer}
--- what check answers to the record that make made
+-- what check answers to the record that make or pipe made
 pub use Rattle.rv_commands.proofs.CheckOfMade.{check-of-made}

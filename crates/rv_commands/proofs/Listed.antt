@@ -19,7 +19,7 @@ use Rattle.rv_plan.specs.Answers.{AllListed, IsListed}
 use Rattle.rv_plan.specs.declared.faults.Limited.TheVariants as limited
 use Rattle.rv_plan.specs.declared.faults.Fault.TheVariants.{Words, Budget, Limit, Version, Step, Part, Memory, Assembly}
 use Rattle.rv_plan.proofs.Lemmas.{at-most-8, listed-answer, listed-if, listed-program, listed-read, listed-within, refusal-listed, success-listed}
-use Rattle.rv_commands.specs.CommandLine.{MakeWords, RunWords, TrialWords, CommandWords, make, check, settle, run, explain, trial, state, cell, SplitWords, JoinWords, AsmWords, UpgradeWords, split, join, asm, upgrade}
+use Rattle.rv_commands.specs.CommandLine.{MakeWords, RunWords, TrialWords, CommandWords, make, pipe, check, settle, run, explain, trial, state, cell, SplitWords, JoinWords, AsmWords, UpgradeWords, split, join, asm, upgrade}
 use Rattle.rv_asm.specs.Assembly.{assembly, symbols_of}
 use Rattle.rv_asm.specs.Symbols.{Symbol}
 use Rattle.rv_asm.specs.declared.faults.AsmFault.{AsmFault}
@@ -30,7 +30,7 @@ use Rattle.rv_upgrade.specs.declared.reasons.Blocked.{Blocked}
 use Rattle.rv_trial.specs.Trials.{ends_within, budget, trial as trial_told}
 use Rattle.rv_trial.specs.declared.summary.Trial.{Trial}
 use Rattle.rv_commands.specs.Differing.{least_differing}
-use Rattle.rv_commands.specs.Outcome.{denies, ran, made, told_verdict, settled, settled_by, explained, tried, answered, asked, question_plan, state_text, cell_text, make_plan, read_record, check_plan, settle_plan, run_plan, plan_of, plan, cut, unless_fault, unless_refused, parts_from, behind_first, all_parts, assembled, unless_blocked, upgrade_done, renewed, version_fault}
+use Rattle.rv_commands.specs.Outcome.{denies, ran, made, told_verdict, settled, settled_by, explained, tried, answered, asked, question_plan, state_text, cell_text, make_plan, making_plan, read_record, check_plan, settle_plan, run_plan, plan_of, plan, cut, unless_fault, unless_refused, parts_from, behind_first, all_parts, assembled, unless_blocked, upgrade_done, renewed, version_fault}
 use Rattle.rv_plan.specs.declared.faults.PartFault.{PartFault}
 use Rattle.rv_commands.specs.Parts.{Joined, added, added_behind, begun, opened, part_name, whole_of}
 
@@ -121,9 +121,12 @@ renewed-listed : (w : UpgradeWords) (file : List ℕ) (r : Result Parts Refusal)
 renewed-listed w file (Err r) = denied-listed _
 renewed-listed w file (Ok p) = unless_blocked-listed (blocked p) (upgrade_done w file p.header.steps) (success-listed _ refl)
 
+making-listed : (w : MakeWords) → AllListed (making_plan w)
+making-listed w = listed-program w.elf w.input (make_plan w) (λ program given. listed-answer _ (made-listed w program given (ends_within (image w.version program) given w.budget)))
+
 command-listed : (c : CommandWords) → AllListed (plan_of c)
-command-listed (make w) =
-    listed-program w.elf w.input (make_plan w) (λ program given. listed-answer _ (made-listed w program given (ends_within (image w.version program) given w.budget)))
+command-listed (make w) = making-listed w
+command-listed (pipe w) = making-listed w.make
 command-listed (check w) =
     listed-program w.elf w.input (check_plan w) (λ program given. record-listed (nat_lt 1 w.workers) w.file (λ file. answer (told_verdict (verdict sha_lanes program given file))) (λ file. listed-answer _ (verdict-listed (verdict sha_lanes program given file))))
 command-listed (settle w) =

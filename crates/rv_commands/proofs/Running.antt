@@ -1,5 +1,5 @@
 -- What is loaded is run as the plans say.
-use Rattle.std.proofs.Common.{◌≡◌, ℕ, ◌-◌, ◌≤◌, List, [], ◌∷◌, length, None, Ok, sym, ◌∙◌, ap, subst}
+use Rattle.std.proofs.Common.{◌≡◌, ℕ, ◌≤◌, List, [], ◌∷◌, length, None, Ok, sym, ◌∙◌, ap, subst}
 use Rattle.rv_base.specs.declared.record.End.{End}
 use Rattle.rv_spec.specs.Elf.{Image, image, first_fault}
 use Rattle.rv_spec.specs.Run.{run as state_of, GoesOn, EndsIn}

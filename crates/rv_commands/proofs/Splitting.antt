@@ -1,5 +1,5 @@
 -- What split does, as its plan says, and what its success says.
-use Rattle.std.proofs.Common.{◌≡◌, ◌≤◌, ◌<◌, ◌⊎◌, inl, inr, ℕ, ◌+◌, List, [], ◌∷◌, ◌++◌, length, map, take, get_or, arith, Ok, Err, Result, IfOk, refl, sym, ap, subst, ◌∙◌, option_map, if◌then◌else◌}
+use Rattle.std.proofs.Common.{◌≡◌, ◌≤◌, ◌<◌, inl, inr, ℕ, ◌+◌, List, [], ◌∷◌, ◌++◌, length, map, take, get_or, arith, Ok, Err, Result, IfOk, refl, sym, ap, subst, ◌∙◌, option_map, if◌then◌else◌}
 use Rattle.std.specs.List.{flat_map, range_with_len, zip}
 use Rattle.std.proofs.lemmas.List.{length-map, length-take-le, map-append, take_more}
 use Rattle.rv_book.proofs.Lemmas.{range-snoc}
@@ -15,7 +15,7 @@ use Rattle.rv_parts.specs.declared.cutting.PartCut.{PartCut}
 use Rattle.rv_parts.specs.Cutting.{PartsAreFile, body_of, front_of, head_of_part, part_bytes}
 use Rattle.rv_parts.specs.Heads.{head_bytes}
 use Rattle.rv_plan.specs.Plan.{Due, Outcome, answer, refuses, with_due}
-use Rattle.rv_plan.specs.Endings.{IsContents, IsWritten, Leaves, WriteFails}
+use Rattle.rv_plan.specs.Endings.{IsWritten, WriteFails}
 use Rattle.rv_plan.specs.FileCalls.{IsUnchanged, Performs, PerformsBehind, ReadsWithin, Stops, due_of}
 use Rattle.rv_plan.specs.declared.writing.DueFile.{DueFile}
 use Rattle.rv_plan.specs.declared.faults.Fault.{Fault}

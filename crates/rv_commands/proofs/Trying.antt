@@ -1,5 +1,5 @@
 -- What trial does, as its plan says, and how it ends.
-use Rattle.std.proofs.Common.{◌≡◌, ◌≢◌, ◌⊎◌, inl, inr, ◌==◌, ℕ, List, [], ◌∷◌, length, Option, Some, None, Ok, true, false, refl, sym, ap, ◌∙◌, arith, length-append}
+use Rattle.std.proofs.Common.{◌≡◌, ◌≢◌, ◌⊎◌, inl, inr, ◌==◌, ℕ, List, [], ◌∷◌, length, Option, Some, None, Ok, false, refl, sym, ap, ◌∙◌, arith, length-append}
 use Rattle.std.proofs.lemmas.Bool.{eqb-false, true≢false}
 use Rattle.rv_host.specs.Views.{ShelfView, SinkView}
 use Rattle.rv_plan.specs.Plan.{Due, Outcome, answer, refuses}

@@ -26,7 +26,7 @@ use Rattle.rv_plan.specs.Answers.Prints.{whole, torn}
 use Rattle.rv_plan.specs.declared.faults.Limited.{Limited}
 use Rattle.rv_plan.specs.declared.faults.Limited.TheVariants as limited
 use Rattle.rv_plan.specs.declared.faults.Fault.TheVariants.{Words, Limit, Part}
-use Rattle.rv_commands.specs.CommandLine.{MakeWords, RunWords, TrialWords, CommandWords, make, check, settle, run, explain, trial, state, cell, SplitWords, JoinWords, AsmWords, UpgradeWords, split, join, asm, upgrade}
+use Rattle.rv_commands.specs.CommandLine.{MakeWords, RunWords, TrialWords, CommandWords, make, pipe, check, settle, run, explain, trial, state, cell, SplitWords, JoinWords, AsmWords, UpgradeWords, split, join, asm, upgrade}
 use Rattle.rv_asm.specs.Assembly.{assembly, symbols_of}
 use Rattle.rv_asm.specs.Symbols.{Symbol}
 use Rattle.rv_asm.specs.declared.faults.AsmFault.{AsmFault}
@@ -37,7 +37,7 @@ use Rattle.rv_upgrade.specs.Upgrade.{blocked}
 use Rattle.rv_upgrade.specs.declared.reasons.Blocked.{Blocked}
 use Rattle.rv_trial.specs.Trials.{ends_within, trial as trial_told}
 use Rattle.rv_trial.specs.declared.summary.Trial.{Trial}
-use Rattle.rv_commands.specs.Outcome.{ran, made, told_verdict, settled, settled_by, explained, tried, answered, asked, question_plan, state_text, cell_text, make_plan, read_record, check_plan, settle_plan, run_plan, plan_of, plan, denies, cut, unless_fault, unless_refused, parts_from, behind_first, all_parts, assembled, unless_blocked, upgrade_done, renewed}
+use Rattle.rv_commands.specs.Outcome.{ran, made, told_verdict, settled, settled_by, explained, tried, answered, asked, question_plan, state_text, cell_text, make_plan, making_plan, read_record, check_plan, settle_plan, run_plan, plan_of, plan, denies, cut, unless_fault, unless_refused, parts_from, behind_first, all_parts, assembled, unless_blocked, upgrade_done, renewed}
 use Rattle.rv_plan.specs.declared.faults.PartFault.{PartFault}
 use Rattle.rv_commands.specs.Lines.{refused_line}
 use Rattle.rv_commands.specs.Parts.{Joined, added, added_behind, begun, opened, part_name, whole_of}
@@ -155,9 +155,12 @@ renewed-read : (w : UpgradeWords) (file : List ℕ) (r : Result Parts Refusal) �
 renewed-read w file (Err r) = apart 1 refl
 renewed-read w file (Ok p) = unless_blocked-read (blocked p) (upgrade_done w file p.header.steps) (apart 0 refl)
 
+making-read : (w : MakeWords) → AllRead (making_plan w)
+making-read w = read-program-read w.elf w.input (make_plan w) (λ program given. read-answer _ (made-read w program given (ends_within (image w.version program) given w.budget)))
+
 command-read : (c : CommandWords) → AllRead (plan_of c)
-command-read (make w) =
-    read-program-read w.elf w.input (make_plan w) (λ program given. read-answer _ (made-read w program given (ends_within (image w.version program) given w.budget)))
+command-read (make w) = making-read w
+command-read (pipe w) = making-read w.make
 command-read (check w) =
     read-program-read w.elf w.input (check_plan w) (λ program given. read-recorded (nat_lt 1 w.workers) w.file (λ file. answer (told_verdict (verdict sha_lanes program given file))) (λ file. read-answer _ (verdict-read (verdict sha_lanes program given file))))
 command-read (settle w) =

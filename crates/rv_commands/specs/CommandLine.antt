@@ -2,9 +2,9 @@
 use Rattle.rv_base.specs.declared.limits.TheConstants.{BUDGET_LIMIT, SHARD_SIZE_LIMIT, WORKERS_LIMIT}
 use Rattle.rv_spec.specs.Cells.{register_cell}
 use Rattle.rv_parts.specs.declared.cutting.TheConstants.{PARTS_LIMIT}
-use Rattle.rv_commands.specs.declared.commands.TheConstants.{LAST_STEP, LISTED_ROWS_LIMIT, LAST_NUMBER, LEAST_SIZE, SIZE_LIMIT}
+use Rattle.rv_commands.specs.declared.commands.TheConstants.{LAST_STEP, LISTED_ROWS_LIMIT, LAST_NUMBER, LEAST_PIPE_WORKERS, LEAST_SIZE, SIZE_LIMIT, WAITING_LIMIT}
 use Rattle.rv_commands.specs.declared.spelled_cells.TheConstants.{LAST_REGISTER, ADDRESS_DIGITS, WORD_BYTES}
-use Rattle.std.specs.Prelude.{ℕ, ◌+◌, ◌*◌, ◌-◌, ◌/◌, ◌%◌, Bool, not, ◌&&◌, ◌||◌, List, [], ◌∷◌, length, fold, Option, Some, None, option_map, nat_lt, false, ◌==◌, bytes_eq, codes, slice_index, if◌then◌else◌}
+use Rattle.std.specs.Prelude.{ℕ, ◌+◌, ◌*◌, ◌-◌, ◌/◌, ◌%◌, Bool, not, ◌&&◌, ◌||◌, List, [], ◌∷◌, length, fold, Option, Some, None, option_map, nat_lt, true, false, ◌==◌, bytes_eq, codes, slice_index, if◌then◌else◌}
 use Rattle.std.specs.List.{list_all}
 use Rattle.std.specs.Int.{is_in_range}
 
@@ -63,6 +63,11 @@ pub record MakeWords : Type 0 where
   pub workers : ℕ
   pub shard : ℕ
   pub budget : ℕ
+
+-- pipe ELF INPUT RECORD WORKERS SHARD BUDGET WAITING, as make of version 1
+pub record PipeWords : Type 0 where
+  pub make : MakeWords
+  pub waiting : ℕ
 
 -- run ELF INPUT OUTPUT BUDGET for version 1, run2 for version 2
 pub record RunWords : Type 0 where
@@ -138,6 +143,7 @@ pub record UpgradeWords : Type 0 where
 -- a command with its numbers read
 pub data CommandWords : Type 0 where
   make : MakeWords → CommandWords
+  pipe : PipeWords → CommandWords
   check : CheckWords → CommandWords
   settle : SettleWords → CommandWords
   run : RunWords → CommandWords
@@ -150,16 +156,29 @@ pub data CommandWords : Type 0 where
   asm : AsmWords → CommandWords
   upgrade : UpgradeWords → CommandWords
 
--- make with its numbers, where each is one
-abbrev pub make_words : ℕ → List ℕ → List ℕ → List ℕ → Option ℕ → Option ℕ → Option ℕ → Option CommandWords
+-- what a record is made of and by, with its numbers, where each is one
+abbrev pub make_words : ℕ → List ℕ → List ℕ → List ℕ → Option ℕ → Option ℕ → Option ℕ → Option MakeWords
 make_words version elf input target (Some workers) (Some shard) (Some budget) =
-    Some (make (record { version = version; elf = elf; input = input; target = target; workers = workers; shard = shard; budget = budget }))
+    Some (record { version = version; elf = elf; input = input; target = target; workers = workers; shard = shard; budget = budget })
 make_words version elf input target _ _ _ = None
 
+-- ELF INPUT RECORD WORKERS SHARD BUDGET, with a least number of workers
+abbrev pub making : ℕ → ℕ → List (List ℕ) → Option MakeWords
+making version least (elf ∷ input ∷ target ∷ workers ∷ shard ∷ budget ∷ []) =
+    make_words version elf input target (number least WORKERS_LIMIT workers) (number 1 SHARD_SIZE_LIMIT shard) (number 1 BUDGET_LIMIT budget)
+making version least _ = None
+
 abbrev pub make_command : ℕ → List (List ℕ) → Option CommandWords
-make_command version (elf ∷ input ∷ target ∷ workers ∷ shard ∷ budget ∷ []) =
-    make_words version elf input target (number 1 WORKERS_LIMIT workers) (number 1 SHARD_SIZE_LIMIT shard) (number 1 BUDGET_LIMIT budget)
-make_command version _ = None
+make_command version arguments = option_map make (making version 1 arguments)
+
+abbrev pub pipe_words : Option MakeWords → Option ℕ → Option CommandWords
+pipe_words (Some m) (Some waiting) = Some (pipe (record { make = m; waiting = waiting }))
+pipe_words _ _ = None
+
+abbrev pub pipe_command : List (List ℕ) → Option CommandWords
+pipe_command (elf ∷ input ∷ target ∷ workers ∷ shard ∷ budget ∷ waiting ∷ []) =
+    pipe_words (making 1 LEAST_PIPE_WORKERS (elf ∷ input ∷ target ∷ workers ∷ shard ∷ budget ∷ [])) (number 1 WAITING_LIMIT waiting)
+pipe_command _ = None
 
 abbrev pub check_words : List ℕ → List ℕ → List ℕ → Option ℕ → Option CommandWords
 check_words elf input file (Some workers) = Some (check (record { elf = elf; input = input; file = file; workers = workers }))
@@ -245,6 +264,7 @@ command [] = None
 command (name ∷ arguments) =
     if bytes_eq name (codes "make") then make_command 1 arguments
     else (if bytes_eq name (codes "make2") then make_command 2 arguments
+    else (if bytes_eq name (codes "pipe") then pipe_command arguments
     else (if bytes_eq name (codes "check") then check_command arguments
     else (if bytes_eq name (codes "settle") then settle_command arguments
     else (if bytes_eq name (codes "run") then run_command 1 arguments
@@ -257,10 +277,11 @@ command (name ∷ arguments) =
     else (if bytes_eq name (codes "join") then join_command arguments
     else (if bytes_eq name (codes "asm") then asm_command arguments
     else (if bytes_eq name (codes "upgrade") then upgrade_command arguments
-    else None)))))))))))))
+    else None))))))))))))))
 
--- a command that is given more than one worker
+-- a command that is given more than one worker, as each pipe is
 abbrev pub is_teamwork : Option CommandWords → Bool
 is_teamwork (Some (make w)) = nat_lt 1 w.workers
+is_teamwork (Some (pipe w)) = true
 is_teamwork (Some (check w)) = nat_lt 1 w.workers
 is_teamwork _ = false

@@ -1,13 +1,14 @@
 -- The commands of the program, and the words that spell them.
-use Rattle.std.specs.Prelude.{◌≡◌, Option, Some, None, MatchOption, IsTrue, ⊤}
+use Rattle.std.specs.Prelude.{◌≡◌, ℕ, Option, Some, None, MatchOption, IsTrue, ⊤}
 use Rattle.std.specs.Int.{IsInRange}
 use Rattle.rv_base.specs.declared.limits.TheConstants.{BUDGET_LIMIT, SHARD_SIZE_LIMIT, WORKERS_LIMIT}
 use Rattle.rv_spec.specs.Cells.{is_cell}
-use Rattle.rv_commands.specs.CommandLine.{CommandWords, MakeWords, CheckWords, SettleWords, RunWords, ExplainWords, TrialWords, StateWords, CellWords, make, check, settle, run, explain, trial, state, cell, SplitWords, JoinWords, AsmWords, UpgradeWords, split, join, asm, upgrade}
+use Rattle.rv_commands.specs.CommandLine.{CommandWords, MakeWords, PipeWords, CheckWords, SettleWords, RunWords, ExplainWords, TrialWords, StateWords, CellWords, make, pipe, check, settle, run, explain, trial, state, cell, SplitWords, JoinWords, AsmWords, UpgradeWords, split, join, asm, upgrade}
 use Rattle.rv_parts.specs.declared.cutting.TheConstants.{PARTS_LIMIT}
 use Rattle.rv_commands.specs.declared.commands.Command.{Command}
 use Rattle.rv_commands.specs.declared.commands.Command.TheVariants as command
 use Rattle.rv_commands.specs.declared.commands.Make.{Make}
+use Rattle.rv_commands.specs.declared.commands.Pipe.{Pipe}
 use Rattle.rv_commands.specs.declared.commands.Check.{Check}
 use Rattle.rv_commands.specs.declared.commands.Settle.{Settle}
 use Rattle.rv_commands.specs.declared.commands.Run.{Run}
@@ -19,10 +20,13 @@ use Rattle.rv_commands.specs.declared.commands.Split.{Split}
 use Rattle.rv_commands.specs.declared.commands.Join.{Join}
 use Rattle.rv_commands.specs.declared.commands.Asm.{Asm}
 use Rattle.rv_commands.specs.declared.commands.Upgrade.{Upgrade}
-use Rattle.rv_commands.specs.declared.commands.TheConstants.{LAST_STEP, LISTED_ROWS_LIMIT, LAST_NUMBER, LEAST_SIZE, SIZE_LIMIT}
+use Rattle.rv_commands.specs.declared.commands.TheConstants.{LAST_STEP, LISTED_ROWS_LIMIT, LAST_NUMBER, LEAST_PIPE_WORKERS, LEAST_SIZE, SIZE_LIMIT, WAITING_LIMIT}
 
 abbrev pub make_words : Make → MakeWords
 make_words m = record { version = m.version; elf = m.elf.now; input = m.input.now; target = m.«record».now; workers = m.workers; shard = m.shard; budget = m.budget }
+
+abbrev pub pipe_words : Pipe → PipeWords
+pipe_words p = record { make = make_words p.make; waiting = p.waiting }
 
 abbrev pub check_words : Check → CheckWords
 check_words c = record { elf = c.elf.now; input = c.input.now; file = c.«record».now; workers = c.workers }
@@ -59,6 +63,7 @@ upgrade_words u = record { file = u.old.now; target = u.target.now }
 
 abbrev pub words_of : Command → CommandWords
 words_of (command.Make m) = make (make_words m)
+words_of (command.Pipe p) = pipe (pipe_words p)
 words_of (command.Check c) = check (check_words c)
 words_of (command.Settle c) = settle (settle_words c)
 words_of (command.Run r) = run (run_words r)
@@ -75,9 +80,18 @@ words_of (command.Upgrade u) = upgrade (upgrade_words u)
 abbrev pub IsCommand : Option CommandWords → Option Command → Type 0
 IsCommand spelled c = MatchOption c (spelled ≡ None) (λ c. spelled ≡ Some (words_of c))
 
+-- the numbers that a record is made by are in their ranges
+abbrev pub HasMakeRanges : ℕ → Make → Type 0
+HasMakeRanges least m = IsInRange 1 2 m.version × IsInRange least WORKERS_LIMIT m.workers × IsInRange 1 SHARD_SIZE_LIMIT m.shard × IsInRange 1 BUDGET_LIMIT m.budget
+
+-- what was spelled is what a record is made by, or none
+abbrev pub IsMaking : Option MakeWords → Option Make → Type 0
+IsMaking spelled m = MatchOption m (spelled ≡ None) (λ m. spelled ≡ Some (make_words m))
+
 -- the numbers of a command are in their ranges
 abbrev pub HasRanges : Command → Type 0
-HasRanges (command.Make m) = IsInRange 1 2 m.version × IsInRange 1 WORKERS_LIMIT m.workers × IsInRange 1 SHARD_SIZE_LIMIT m.shard × IsInRange 1 BUDGET_LIMIT m.budget
+HasRanges (command.Make m) = HasMakeRanges 1 m
+HasRanges (command.Pipe p) = HasMakeRanges LEAST_PIPE_WORKERS p.make × IsInRange 1 WAITING_LIMIT p.waiting
 HasRanges (command.Check c) = IsInRange 1 WORKERS_LIMIT c.workers
 HasRanges (command.Settle c) = ⊤
 HasRanges (command.Run r) = IsInRange 1 2 r.version × IsInRange 1 BUDGET_LIMIT r.budget

@@ -26,7 +26,7 @@ use Rattle.rv_trial.specs.Trials.{trial as trial_told, Accepted as IsAccepted}
 use Rattle.rv_trial.specs.declared.summary.Trial.{Trial}
 use Rattle.rv_upgrade.specs.Upgrade.{blocked, upgraded}
 use Rattle.rv_upgrade.specs.Laws.{IsAcceptedToo}
-use Rattle.rv_commands.specs.CommandLine.{MakeWords, CheckWords, SettleWords, TrialWords, StateWords, CellWords, CommandWords, make, check, settle, run, explain, trial, state, cell, SplitWords, JoinWords, AsmWords, UpgradeWords, split, join, asm, upgrade}
+use Rattle.rv_commands.specs.CommandLine.{MakeWords, CheckWords, SettleWords, TrialWords, StateWords, CellWords, CommandWords, make, pipe, check, settle, run, explain, trial, state, cell, SplitWords, JoinWords, AsmWords, UpgradeWords, split, join, asm, upgrade}
 use Rattle.rv_commands.specs.Lines.{state_lines, cell_line}
 use Rattle.rv_commands.specs.Outcome.{asked, cell_text, renewed, state_text, tells, upgrade_done}
 use Rattle.rv_commands.specs.Parts.{part_name, parts_due}
@@ -175,6 +175,7 @@ pub record Upgraded (before after : ShelfView) (w : UpgradeWords) : Type 0 where
 -- The headline, of each command that succeeds.
 abbrev pub Headline : Option CommandWords → ShelfView → ShelfView → Type 0
 Headline (Some (make w)) before after = Made before after w
+Headline (Some (pipe w)) before after = Made before after w.make
 Headline (Some (check w)) before after = Accepted before.files w
 Headline (Some (settle w)) before after = Settled before.files w
 Headline (Some (run w)) before after = ⊤

@@ -1,5 +1,5 @@
 -- The joining of parts, by what its calls answer.
-use Rattle.std.specs.Prelude.{◌≡◌, ◌≤◌, ◌⊎◌, ℕ, zero, suc, ◌+◌, ◌-◌, true, List, [], ◌∷◌, ◌++◌, length, map, Result, Ok, Err, IfOk, ⊤}
+use Rattle.std.specs.Prelude.{◌≡◌, ◌≤◌, ◌⊎◌, ℕ, suc, ◌+◌, ◌-◌, true, List, [], ◌∷◌, ◌++◌, length, map, Result, Ok, Err, IfOk, ⊤}
 use Rattle.std.specs.List.{concat}
 use Rattle.rv_base.specs.declared.limits.TheConstants.{RECORD_LIMIT}
 use Rattle.rv_spec.specs.Conclusion.{IsCollision}
@@ -12,7 +12,7 @@ use Rattle.rv_host.specs.Views.{ShelfView}
 use Rattle.rv_parts.specs.Cutting.{whole}
 use Rattle.rv_parts.specs.Joining.{AreFaultless, Part as PartRead, behind_front}
 use Rattle.rv_parts.specs.declared.summaries.Summary.{Summary}
-use Rattle.rv_plan.specs.Plan.{Plan, answer, refuses}
+use Rattle.rv_plan.specs.Plan.{answer, refuses}
 use Rattle.rv_plan.specs.FileCalls.{PerformsBehind, ReadsWithin, Stops}
 use Rattle.rv_plan.specs.declared.faults.Fault.{Fault}
 use Rattle.rv_plan.specs.declared.faults.Fault.TheVariants.{Memory, Part}

@@ -1,8 +1,10 @@
 -- The making of a record, by what its parts answer.
 use Rattle.std.specs.Prelude.{◌≡◌, ◌<◌, ◌≤◌, ℕ, List, [], ◌∷◌, length, Some, None, Result, IfOk, ⊤}
 use Rattle.std.specs.Int.{div_ceil}
+use Rattle.std.specs.List.{flat_map, range_with_len}
 use Rattle.rv_spec.specs.Elf.{Image, image, first_fault}
-use Rattle.rv_spec.specs.Run.{GoesOn}
+use Rattle.rv_spec.specs.Run.{run, EndsIn, GoesOn}
+use Rattle.rv_spec.specs.Trace.{table}
 use Rattle.rv_spec.specs.Digest.{sha_lanes}
 use Rattle.rv_spec.specs.Record.{record_file}
 use Rattle.rv_book.specs.Journal.{BookState, piece_at}
@@ -12,7 +14,7 @@ use Rattle.rv_replay.specs.Piece.{shard_piece}
 use Rattle.rv_plan.specs.declared.faults.Limited.TheVariants as limited
 use Rattle.rv_plan.specs.declared.faults.Fault.{Fault}
 use Rattle.rv_plan.specs.declared.faults.Fault.TheVariants.{Budget, Memory, Limit}
-use Rattle.rv_base.specs.declared.limits.TheConstants.{RECORD_LIMIT}
+use Rattle.rv_base.specs.declared.limits.TheConstants.{RECORD_LIMIT, SHARDS_LIMIT}
 use Rattle.rv_base.specs.declared.record.End.{End}
 use Rattle.rv_base.specs.declared.record.Verdict.TheVariants.{Accept}
 use Rattle.rv_spec.specs.Conclusion.{HasRecord}
@@ -23,6 +25,7 @@ use Rattle.rv_plan.specs.FileCalls.{PerformsBehind}
 use Rattle.rv_plan.specs.declared.told.Told.{Told}
 use Rattle.rv_commands.specs.CommandLine.{MakeWords}
 use Rattle.rv_commands.specs.Outcome.{make_plan}
+use Rattle.rv_commands.specs.declared.recording.Ended.{Ended}
 
 -- why there is no record of a run within a budget, as a fault
 abbrev pub IsNoSurvey : Image → List ℕ → ℕ → ℕ → Fault → Type 0
@@ -41,9 +44,23 @@ pub record HasPieces (w : MakeWords) (elf input : List ℕ) (p : PointsState) (b
   pub survey : IsSurvey (image w.version elf) input w.shard w.budget p
   pub pieces : (i : ℕ) → i < div_ceil p.steps w.shard → piece_at b i ≡ Some (piece_due w elf input i)
 
--- the record of a run that was surveyed
-abbrev pub recorded : MakeWords → List ℕ → List ℕ → PointsState → List ℕ
-recorded w elf input p = record_file sha_lanes w.version elf input w.shard p.steps p.end
+-- the bytes of all shards of a run of so many steps
+abbrev pub shards_due : MakeWords → List ℕ → List ℕ → ℕ → List ℕ
+shards_due w elf input steps = flat_map (λ i. (piece_due w elf input i).bytes) (range_with_len 0 (div_ceil steps w.shard))
+
+-- the run that the words ask for ended within the budget, in as many shards as a record may have
+pub record IsEnded (w : MakeWords) (elf input : List ℕ) (e : Ended) : Type 0 where
+  pub ends : EndsIn (image w.version elf) input e.steps e.end
+  pub within : e.steps ≤ w.budget
+  pub shards : e.shards ≡ div_ceil e.steps w.shard
+  pub few : div_ceil e.steps w.shard ≤ SHARDS_LIMIT
+  pub consumed : e.consumed ≡ (run (image w.version elf) input e.steps).position
+  pub output : e.output.now ≡ (run (image w.version elf) input e.steps).output
+  pub table : e.table.now ≡ table (image w.version elf) input e.steps
+
+-- the record of a run that ended
+abbrev pub recorded : MakeWords → List ℕ → List ℕ → Ended → List ℕ
+recorded w elf input e = record_file sha_lanes w.version elf input w.shard e.steps e.end
 
 -- A program without a fault, its run, and a task that makes the pieces of all its shards.
 pub record IsTaskDue (w : MakeWords) (elf input : List ℕ) (p : PointsState) (most : ℕ) (piece : ℕ → Piece) : Type 0 where

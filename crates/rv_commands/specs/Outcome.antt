@@ -36,7 +36,7 @@ use Rattle.rv_plan.specs.declared.faults.Limited.TheVariants as limited
 use Rattle.rv_plan.specs.declared.faults.VersionFault.{VersionFault}
 use Rattle.rv_plan.specs.declared.faults.VersionFault.TheVariants as version
 use Rattle.rv_plan.specs.declared.faults.Fault.TheVariants.{Words, Budget, Limit, Version, Step, Part, Memory, Assembly}
-use Rattle.rv_commands.specs.CommandLine.{MakeWords, CheckWords, SettleWords, RunWords, ExplainWords, TrialWords, StateWords, CellWords, CommandWords, make, check, settle, run, explain, trial, state, cell, command, SplitWords, JoinWords, AsmWords, UpgradeWords, split, join, asm, upgrade}
+use Rattle.rv_commands.specs.CommandLine.{MakeWords, CheckWords, SettleWords, RunWords, ExplainWords, TrialWords, StateWords, CellWords, CommandWords, make, pipe, check, settle, run, explain, trial, state, cell, command, SplitWords, JoinWords, AsmWords, UpgradeWords, split, join, asm, upgrade}
 use Rattle.rv_commands.specs.Lines.{made_line, ran_line, accepted_line, refused_line, settled_line, collision_line, trial_line, state_lines, cell_line, split_line, assembled_line, upgraded_line}
 use Rattle.rv_plan.specs.declared.faults.PartFault.{PartFault}
 use Rattle.rv_commands.specs.Parts.{Joined, added, added_behind, begun, bytes_due, opened, part_name, parts_due, whole_of}
@@ -192,6 +192,10 @@ renewed w file (Ok p) = unless_blocked (blocked p) (upgrade_done w file p.header
 abbrev pub make_plan : MakeWords → List ℕ → List ℕ → Plan
 make_plan w elf input = answer (made w elf input (ends_within (image w.version elf) input w.budget))
 
+-- a record is made of a program and its input, by whatever workers
+abbrev pub making_plan : MakeWords → Plan
+making_plan w = read_program w.elf w.input (make_plan w)
+
 abbrev pub run_plan : RunWords → List ℕ → List ℕ → Plan
 run_plan w elf input = answer (ran w (image w.version elf) input (ends_within (image w.version elf) input w.budget))
 
@@ -226,7 +230,8 @@ abbrev pub upgrade_plan : UpgradeWords → Plan
 upgrade_plan w = read_within w.file RECORD_LIMIT limited.Record (λ file. answer (renewed w file (parse file)))
 
 abbrev pub plan_of : CommandWords → Plan
-plan_of (make w) = read_program w.elf w.input (make_plan w)
+plan_of (make w) = making_plan w
+plan_of (pipe w) = making_plan w.make
 plan_of (check w) = read_program w.elf w.input (check_plan w)
 plan_of (settle w) = read_program w.elf w.input (settle_plan w)
 plan_of (run w) = read_program w.elf w.input (run_plan w)

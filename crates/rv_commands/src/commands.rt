@@ -2,8 +2,8 @@
 
 ghost use Rattle.std.specs.Prelude.{map, string_bytes, IfSome};
 ghost use Rattle.std.specs.Int.{IsInRange};
-ghost use Rattle.rv_commands.specs.Commands.{HasRanges, IsCommand};
-ghost use Rattle.rv_commands.specs.CommandLine.{asm_command, cell_command, check_command, command, explain_command, join_command, make_command, run_command, settle_command, split_command, state_command, trial_command, upgrade_command};
+ghost use Rattle.rv_commands.specs.Commands.{HasMakeRanges, HasRanges, IsCommand, IsMaking};
+ghost use Rattle.rv_commands.specs.CommandLine.{asm_command, cell_command, check_command, command, explain_command, join_command, make_command, making as making_of, pipe_command, run_command, settle_command, split_command, state_command, trial_command, upgrade_command};
 
 use crate::numbers::number;
 use crate::spelled_cells::cell;
@@ -14,6 +14,7 @@ use rv_parts::PARTS_LIMIT;
 #[derive(Clone, Copy, Debug)]
 pub enum Command<'a> {
     Make(Make<'a>),
+    Pipe(Pipe<'a>),
     Check(Check<'a>),
     Settle(Settle<'a>),
     Run(Run<'a>),
@@ -41,6 +42,21 @@ pub struct Make<'a> {
     pub shard: u32,
     /// 1 to 8,388,608 steps, the ending one counted.
     pub budget: u32,
+}
+
+/// The fewest workers of a pipe: one goes through the run, the others make its shards.
+pub const LEAST_PIPE_WORKERS: u32 = 2;
+
+/// The most starts of shards that may wait for a worker.
+pub const WAITING_LIMIT: u32 = 64;
+
+/// `pipe ELF INPUT RECORD WORKERS SHARD BUDGET WAITING`: writes the record of a run while the run is gone through.
+#[derive(Clone, Copy, Debug)]
+pub struct Pipe<'a> {
+    /// Of version 1, by 2 to 64 workers.
+    pub make: Make<'a>,
+    /// 1 to 64 starts of shards that may wait for a worker.
+    pub waiting: u32,
 }
 
 /// `check ELF INPUT RECORD WORKERS`: tells the verdict on a record.
@@ -174,6 +190,7 @@ pub fn parse(words: &[String]) -> Option<Command<'_>>
     match name.as_str() {
         "make" => parse_make(1, arguments),
         "make2" => parse_make(2, arguments),
+        "pipe" => parse_pipe(arguments),
         "check" => parse_check(arguments),
         "settle" => parse_settle(arguments),
         "run" => parse_run(1, arguments),
@@ -195,13 +212,35 @@ fn parse_make(version: u8, arguments: &[String]) -> Option<Command<'_>>
     ensures command { IsCommand (make_command version (map string_bytes arguments.now)) result }
     ensures ranges { IfSome result HasRanges }
 {
+    let made = making(version, 1, arguments)?;
+    Some(Command::Make(made))
+}
+
+fn parse_pipe(arguments: &[String]) -> Option<Command<'_>>
+    ensures command { IsCommand (pipe_command (map string_bytes arguments.now)) result }
+    ensures ranges { IfSome result HasRanges }
+{
+    let [made @ .., waiting] = arguments else {
+        return None;
+    };
+    let make = making(1, LEAST_PIPE_WORKERS, made)?;
+    let waiting = number(waiting.as_str(), 1, WAITING_LIMIT)?;
+    Some(Command::Pipe(Pipe { make, waiting }))
+}
+
+/// What a record is made of and by, at least so many workers.
+fn making(version: u8, least: u32, arguments: &[String]) -> Option<Make<'_>>
+    requires { IsInRange 1 2 version }
+    ensures making { IsMaking (making_of version least (map string_bytes arguments.now)) result }
+    ensures ranges { IfSome result (HasMakeRanges least) }
+{
     let [elf, input, record, workers, shard, budget] = arguments else {
         return None;
     };
-    let workers = number(workers.as_str(), 1, WORKERS_LIMIT)?;
+    let workers = number(workers.as_str(), least, WORKERS_LIMIT)?;
     let shard = number(shard.as_str(), 1, SHARD_SIZE_LIMIT)?;
     let budget = number(budget.as_str(), 1, BUDGET_LIMIT)?;
-    Some(Command::Make(Make {
+    Some(Make {
         version,
         elf: elf.as_str(),
         input: input.as_str(),
@@ -209,7 +248,7 @@ fn parse_make(version: u8, arguments: &[String]) -> Option<Command<'_>>
         workers,
         shard,
         budget,
-    }))
+    })
 }
 
 fn parse_check(arguments: &[String]) -> Option<Command<'_>>

@@ -12,6 +12,7 @@ mod judging;
 mod lines;
 mod make;
 mod numbers;
+mod pipe;
 mod recording;
 mod run;
 mod settle;

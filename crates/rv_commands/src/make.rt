@@ -1,25 +1,29 @@
 //! `make` and `make2`: write the record of a run.
 
-ghost use Rattle.std.specs.Prelude.{◌≡◌, ◌≤◌, IfOk, IfErr};
+ghost use Rattle.std.specs.Prelude.{◌≡◌, ℕ, ◌<◌, ◌≤◌, IfOk, IfErr, Some};
 ghost use Rattle.std.specs.Int.{IsInRange};
+ghost use Rattle.std.specs.List.{flat_map, range_with_len};
+ghost use Rattle.rv_spec.specs.Elf.{image};
+ghost use Rattle.rv_book.specs.Journal.{piece_at};
+ghost use Rattle.rv_book.specs.declared.task.Piece.{Piece as PieceOf};
 ghost use Rattle.rv_plan.specs.FileCalls.{Performs};
 ghost use Rattle.rv_point.specs.PointsState.{IsSurvey};
 ghost use Rattle.rv_commands.specs.CommandLine as command;
 ghost use Rattle.rv_commands.specs.Commands.{make_words};
 ghost use Rattle.rv_commands.specs.Headline.{Made};
-ghost use Rattle.rv_commands.specs.Making.{HasPieces, IsNoSurvey, IsTaskDue, Records};
+ghost use Rattle.rv_commands.specs.Making.{HasPieces, IsEnded, IsNoSurvey, IsTaskDue, Records};
 ghost use Rattle.rv_commands.specs.Outcome.{plan_of};
 
 use crate::commands::Make;
-use crate::recording::{front_of, parts_of, record_is_accepted, table_of, write_parts};
+use crate::recording::{Ended, fault_of, write_run};
+use rv_base::NoMemory;
 use rv_base::limits::{BUDGET_LIMIT, SHARD_SIZE_LIMIT, WORKERS_LIMIT};
 use rv_book::{Book, Task};
 use rv_digest::ShaLanes;
 use rv_elf::Image;
 use rv_host::{Gate, Shelf};
-use rv_plan::{Fault, Limited, Loaded, Told, image_of, load};
-use rv_point::laws::pieces;
-use rv_point::{Points, RunFault, survey};
+use rv_plan::{Fault, Loaded, Told, image_of, load};
+use rv_point::{Points, survey};
 use rv_replay::ShardTask;
 use rv_team::{run_one, run_team};
 use std::alloc::Global;
@@ -137,31 +141,55 @@ fn write_record<S: Shelf, T: Task>(
     requires has { HasPieces (make_words words.now) loaded.now.elf loaded.now.input points.now book.now }
     ensures { Records (make_words words.now) loaded.now.elf loaded.now.input (S.view shelf.old) (S.view shelf.new) result }
 {
-    pieces();
-    record_is_accepted(
-        words.version,
-        words.shard,
-        words.budget,
-        loaded.elf.list(),
-        loaded.input.list(),
-        points,
-    );
-    let front = front_of(words.version, words.shard, loaded, points);
-    let Some(table) = table_of(alloc, points) else {
+    let ended = ended_of(words, loaded, points);
+    let Ok(shards) = shards_of(alloc, book, ended.shards) else {
         return Err(Fault::Memory);
     };
-    let Ok(parts) = parts_of(
-        alloc,
-        &front,
-        points.output(),
-        book,
-        points.shards(),
-        table.as_slice(),
-    ) else {
-        return Err(Fault::Memory);
-    };
-    let told = write_parts(alloc, shelf, words, loaded, points, parts.as_slice())?;
-    Ok(told)
+    write_run(alloc, shelf, words, loaded, &ended, shards.as_slice())
+}
+
+/// How the run of a survey ended.
+fn ended_of<'p>(words: &Make<'_>, loaded: &Loaded, points: &'p Points<'_>) -> Ended<'p>
+    requires { IsSurvey (image words.now.version loaded.now.elf) loaded.now.input words.now.shard words.now.budget points.now }
+    ensures ended { IsEnded (make_words words.now) loaded.now.elf loaded.now.input result }
+    ensures steps { result.steps ≡ points.now.steps }
+{
+    Ended {
+        steps: points.steps(),
+        shards: points.shards(),
+        end: points.end(),
+        consumed: points.consumed(),
+        output: points.output(),
+        table: points.table(),
+    }
+}
+
+/// The bytes of the first pieces of a book, in order.
+fn shards_of<'b, T: Task>(
+    alloc: Global,
+    book: &'b Book<'_, T>,
+    shards: u32,
+) -> Result<Vec<&'b [u8]>, NoMemory>
+    requires { (i : ℕ) → i < shards → (p : PieceOf) × (piece_at book.now i ≡ Some p) }
+    ensures { (piece : ℕ → PieceOf) → ((i : ℕ) → i < shards → piece_at book.now i ≡ Some (piece i))
+        → IfOk result (λ parts. flat_map (λ part. part.now) parts.items ≡ flat_map (λ i. (piece i).bytes) (range_with_len 0 shards)) }
+{
+    let mut parts = Vec::new(alloc);
+    for i in 0..shards {
+        parts.push(bytes_of(book, i))?;
+    }
+    Ok(parts)
+}
+
+/// The bytes of a piece that the book has.
+fn bytes_of<'b, T: Task>(book: &'b Book<'_, T>, i: u32) -> &'b [u8]
+    requires { (p : PieceOf) × (piece_at book.now i ≡ Some p) }
+    ensures { (p : PieceOf) → piece_at book.now i ≡ Some p → result.now ≡ p.bytes }
+{
+    match book.piece(i) {
+        Some(piece) => piece.bytes.list(),
+        None => unreachable!(),
+    }
 }
 
 /// The run in shards, or why there is no record of it.
@@ -179,8 +207,6 @@ fn survey_run<'a>(
 {
     match survey(alloc, image, input, shard, u64::from(budget)) {
         Ok(points) => Ok(points),
-        Err(RunFault::Budget) => Err(Fault::Budget(budget)),
-        Err(RunFault::Shards { .. }) => Err(Fault::Limit(Limited::Shards)),
-        Err(RunFault::NoMemory) => Err(Fault::Memory),
+        Err(fault) => Err(fault_of(fault, budget)),
     }
 }

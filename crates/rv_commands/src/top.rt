@@ -16,6 +16,7 @@ use crate::commands::{Command, parse};
 use crate::explain::explain;
 use crate::join::join;
 use crate::make::{make, make_by_team};
+use crate::pipe::pipe;
 use crate::run::run;
 use crate::settle::settle;
 use crate::split::split;
@@ -27,12 +28,13 @@ use std::alloc::Global;
 use std::sync::Wait;
 use std::thread::Threads;
 
-/// Whether the words are a valid command that is given more than one worker.
+/// Whether the words are a valid command that is given more than one worker, as each `pipe` is.
 pub fn needs_team(words: &[String]) -> bool
     ensures { result ≡ is_teamwork (command (map string_bytes words.now)) }
 {
     match parse(words) {
         Some(Command::Make(make)) => make.workers > 1,
+        Some(Command::Pipe(_)) => true,
         Some(Command::Check(check)) => check.workers > 1,
         Some(
             Command::Settle(_)
@@ -117,6 +119,7 @@ fn perform_by_team<R: Threads + Wait + Sync, S: Shelf, G: Gate>(
 {
     match asked {
         Command::Make(words) => make_by_team(rt, alloc, words, shelf, gate),
+        Command::Pipe(words) => pipe(rt, alloc, words, shelf, gate),
         Command::Check(words) => check_by_team(rt, alloc, words, shelf, gate),
         Command::Settle(words) => settle(alloc, words, shelf),
         Command::Run(words) => run(alloc, words, shelf),
@@ -140,6 +143,7 @@ fn perform_alone<S: Shelf>(alloc: Global, asked: &Command<'_>, shelf: &mut S) ->
 {
     match asked {
         Command::Make(words) => make(alloc, words, shelf),
+        Command::Pipe(_) => unreachable!(),
         Command::Check(words) => check(alloc, words, shelf),
         Command::Settle(words) => settle(alloc, words, shelf),
         Command::Run(words) => run(alloc, words, shelf),

@@ -12,10 +12,9 @@ ghost use Rattle.rv_point.specs.Course.{GivesShard, HasFault, IsAt, IsBegun, IsN
 
 use crate::fault::RunFault;
 use crate::start::{Cells, ShardStart};
-use arrayvec::ArrayVec;
 use rv_base::limits::SHARDS_LIMIT;
 use rv_base::{Access, End, NoMemory, Place, TableEntry, time_of};
-use rv_isa::Hart;
+use rv_isa::{Hart, no_row};
 use rv_row::Row;
 use std::alloc::Global;
 
@@ -182,15 +181,6 @@ impl Course<'_> {
         }
         let needed = self.needed(size, budget)?;
         Err(RunFault::Shards { needed })
-    }
-}
-
-/// A row to be replaced.
-fn no_row() -> Row {
-    Row {
-        pc: 0,
-        next: 0,
-        accesses: ArrayVec::new(),
     }
 }
 

@@ -5,12 +5,11 @@ ghost use Rattle.rv_spec.specs.Words.{AreBytes};
 ghost use Rattle.rv_rules.specs.Agreement.{IsProgram};
 ghost use Rattle.rv_replay.specs.Making.{HasMade};
 
-use arrayvec::ArrayVec;
 use rv_base::NoMemory;
 use rv_digest::Lanes;
-use rv_isa::Hart;
+use rv_isa::{Hart, no_row};
 use rv_pairs::Pairing;
-use rv_row::{Row, write_row};
+use rv_row::write_row;
 
 /// A shard in the making: the hart, the bytes, and how many bytes of output were put.
 #[derive(Drop)]
@@ -35,11 +34,7 @@ impl Making<'_> {
         requires made { HasMade L.lanes self.old.hart.cells.image self.old.hart.input first count 0 self.old pairing.old }
         ensures { OnOk result (HasMade L.lanes self.old.hart.cells.image self.old.hart.input first count count self.new pairing.new) }
     {
-        let mut row = Row {
-            pc: 0,
-            next: 0,
-            accesses: ArrayVec::new(),
-        };
+        let mut row = no_row();
         for done in 0..count {
             let step = first + u64::from(done);
             let taken = self.hart.step(step, &mut row)?;

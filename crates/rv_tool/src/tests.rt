@@ -9,6 +9,7 @@ mod holding;
 mod listing;
 mod making;
 mod parting;
+mod piping;
 mod programs;
 mod questions;
 mod running;
@@ -108,6 +109,14 @@ fn words_that_are_no_command(rt: HostRuntime) -> Result<(), Fail> {
         "make elf input record 1 3 8388609",
         "make elf input record 1 3 18446744073709551617",
         "make2 elf input record 1 3",
+        "pipe elf input record 2 1 3",
+        "pipe elf input record 2 1 3 1 1",
+        "pipe elf input record 1 1 3 1",
+        "pipe elf input record 65 1 3 1",
+        "pipe elf input record 2 0 3 1",
+        "pipe elf input record 2 1 8388609 1",
+        "pipe elf input record 2 1 3 0",
+        "pipe elf input record 2 1 3 65",
         "check elf input record",
         "check elf input record 0",
         "check elf input record 65",

@@ -3,8 +3,7 @@
 ghost use Rattle.std.specs.Prelude.{◌≤◌, length, IfOk};
 
 use super::machine::{EXITS, OVERWRITE, file_of};
-use crate::hart::Hart;
-use arrayvec::ArrayVec;
+use crate::hart::{Hart, no_row};
 use rv_base::machine::{EXIT, ILLEGAL_WORD};
 use rv_base::{Access, End, Place, TableEntry};
 use rv_elf::read;
@@ -35,15 +34,6 @@ const LAST: [(u32, u32, u64); 5] = [
     (0x4000_000A, 42, 35),
     (0x4000_0011, 93, 34),
 ];
-
-/// A row to be replaced.
-fn no_row() -> Row {
-    Row {
-        pc: 0,
-        next: 0,
-        accesses: ArrayVec::new(),
-    }
-}
 
 fn is_row(row: &Row, pc: u32, next: u32, accesses: &[(u8, u32, u32, u64, u32)]) -> bool {
     let same = accesses

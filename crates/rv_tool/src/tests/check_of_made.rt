@@ -1,4 +1,4 @@
-//! `check` of what `make` made.
+//! `check` of what `make` or `pipe` made.
 
 ghost use Rattle.std.specs.Prelude.{None, map, string_bytes};
 ghost use Rattle.rv_commands.specs.CheckOfMade.{MadeIsAccepted};
@@ -26,7 +26,7 @@ impl Sink for Nowhere {
     }
 }
 
-/// What `make` answers, and what `check` then answers to the record. No read of the files fails, and no call of the output.
+/// What `make` or `pipe` answers, and what `check` then answers to the record. No read of the files fails, and no call of the output.
 fn make_then_check<R: Threads + Wait + Sync, G: Gate>(
     rt: &R,
     alloc: Global,
@@ -48,6 +48,7 @@ fn any_workers_accept_what_is_made(rt: HostRuntime) -> Result<(), Fail> {
     let reserving = of_code(&rt, &RESERVING)?;
     let made = [
         (PROGRAM.as_slice(), "make elf input record 2 1 3"),
+        (PROGRAM.as_slice(), "pipe elf input record 2 1 3 1"),
         (reserving.as_slice(), "make2 elf input record 1 4 4"),
     ];
     for (elf, line) in made {

@@ -2,15 +2,13 @@
 
 use super::programs::{COUNT, PROGRAM, RECORD, spelled};
 use super::{expect, shelf_with};
-use arrayvec::ArrayVec;
 use rv_base::TableEntry;
 use rv_base::cells::REGISTER_CELLS;
 use rv_base::limits::{ELF_LIMIT, INPUT_LIMIT};
 use rv_file::{Parsed, parse};
-use rv_isa::Hart;
+use rv_isa::{Hart, no_row};
 use rv_program::Program;
 use rv_query::{CellSeen, cell_at, state_at};
-use rv_row::Row;
 use std::alloc::Global;
 use std::process::Abort;
 use std::test::Fail;
@@ -139,11 +137,7 @@ fn opened<'a>(elf: &'a [u8], input: &'a [u8]) -> Result<Program<'a>, Fail> {
 /// The cells that a program uses in its first steps, with their values and times.
 fn touched(alloc: Global, program: &Program<'_>, steps: u32) -> Result<Vec<TableEntry>, Fail> {
     let mut hart = Hart::start(alloc, program.image(), program.input());
-    let mut row = Row {
-        pc: 0,
-        next: 0,
-        accesses: ArrayVec::new(),
-    };
+    let mut row = no_row();
     for number in 0..steps {
         hart.step(u64::from(number), &mut row)?;
     }

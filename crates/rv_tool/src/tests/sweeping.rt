@@ -32,9 +32,13 @@ pub type Case = (&'static str, u64, u8, &'static str);
 const ACCEPTED: &str = "accepted steps=3 shards=1 end=0 code=42\n";
 
 /// Each command, and refusals at each place of their order.
-const CASES: [(Case, Written); 16] = [
+const CASES: [(Case, Written); 17] = [
     (("make elf input target 1 3 3", 2, 0, MADE), Written::Record),
     (("make elf input target 2 3 3", 2, 0, MADE), Written::Record),
+    (
+        ("pipe elf input target 2 3 3 1", 2, 0, MADE),
+        Written::Record,
+    ),
     (
         ("make2 elf input target 1 3 3", 2, 0, MADE),
         Written::Record2,

@@ -1,4 +1,4 @@
-use Rattle.std.proofs.Common.{◌≡◌, ◌-◌, ◌++◌, ℕ, List, ap, ◌∙◌, arith, slice_index}
+use Rattle.std.proofs.Common.{◌≡◌, ◌-◌, ◌++◌, ap, ◌∙◌, arith, slice_index}
 use Rattle.std.specs.List.{flat_map, range_with_len}
 use Rattle.rv_commands.specs.Lines.{register_line, state_line}
 use Rattle.rv_commands.specs.declared.spelled_cells.TheConstants.{LAST_REGISTER}

@@ -1,10 +1,9 @@
-use Rattle.std.proofs.Common.{ap, refl, sym}
+use Rattle.std.proofs.Common.{ap, refl}
 use Rattle.rv_base.specs.declared.record.Header.{Header}
 use Rattle.rv_spec.specs.Digest.{sha_lanes}
-use Rattle.rv_spec.specs.Record.{Parts, all_rows}
+use Rattle.rv_spec.specs.Record.{all_rows}
 use Rattle.rv_spec.specs.Run.{run}
 use Rattle.rv_rules.specs.Verdict.{judge}
-use Rattle.rv_query.specs.OfRun.{cell_of_run}
 use Rattle.rv_query.specs.Questions.{state_answer, state_seen, image_of, snapshot}
 use Rattle.rv_commands.specs.Commands.{state_words}
 use Rattle.rv_commands.specs.Lines.{state_lines}

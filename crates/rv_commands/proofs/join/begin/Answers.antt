@@ -1,4 +1,4 @@
-use Rattle.std.proofs.Common.{◌≡◌, ◌+◌, [], Err, ap, length, refl, sym, ◌∙◌}
+use Rattle.std.proofs.Common.{◌+◌, [], Err, ap, length, refl, sym, ◌∙◌}
 use Rattle.rv_base.specs.declared.layout.TheConstants.{HEADER_BYTES}
 use Rattle.rv_base.specs.declared.record.Header.{Header}
 use Rattle.rv_spec.specs.Digest.{sha_lanes}

@@ -1,4 +1,4 @@
-use Rattle.std.proofs.Common.{Ok, ap, arith, subst, sym, ◌∙◌, ◌≡◌}
+use Rattle.std.proofs.Common.{Ok, ap, arith, subst, ◌∙◌, ◌≡◌}
 use Rattle.rv_parts.specs.Combining.{combined}
 use Rattle.rv_plan.proofs.Lemmas.{handed-on}
 use Rattle.rv_commands.specs.Commands.{join_words}

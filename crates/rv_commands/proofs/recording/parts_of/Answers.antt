@@ -1,15 +1,11 @@
-use Rattle.std.proofs.Common.{◌≡◌, ℕ, ◌++◌, ap, ◌∙◌, arith}
-use Rattle.std.specs.List.{flat_map, range_with_len}
-use Rattle.rv_commands.proofs.Making.{parts-last, parts-more}
+use Rattle.std.proofs.Common.{◌++◌, ap, ◌∙◌, arith}
+use Rattle.std.proofs.lemmas.List.{take_all}
+use Rattle.std.specs.List.{flat_map}
+use Rattle.rv_commands.proofs.Making.{parts-last}
 use Rattle.rv_commands.proofs.recording.parts_of.Goals as goal
 
-pub loop-i-preserved : goal.loop-i-preserved
-loop-i-preserved g c = λ piece each.
-    ap (flat_map (λ part. part.now)) c.in_ok-push-3.ensures.items
-    ∙ parts-more (λ part. part.now) c.loop-i.parts.items c.bytes_of.result (λ (i : ℕ). (piece i).bytes) (c.args.front.now ++ c.args.output.now) c.loop-i.i (c.loop-i.invariant piece each) (c.bytes_of.ensures (piece c.loop-i.i) (each c.loop-i.i c.loop-i-test.true))
-
 pub returns : goal.returns
-returns g c = λ piece each.
+returns c =
     ap (flat_map (λ part. part.now)) c.in_ok-push-4.ensures.items
-    ∙ parts-last (λ part. part.now) c.loop-i.parts.items c.args.table (c.args.front.now ++ c.args.output.now ++ flat_map (λ (i : ℕ). (piece i).bytes) (range_with_len 0 c.args.shards))
-    (c.loop-i.invariant piece each ∙ ap (λ n. c.args.front.now ++ c.args.output.now ++ flat_map (λ (i : ℕ). (piece i).bytes) (range_with_len 0 n)) (let e : c.loop-i.i ≡ c.args.shards = omega (arith, c.loop-i.auto.i-end, c.loop-i-test.false) in e))
+    ∙ parts-last (λ part. part.now) c.loop-shard.parts.items c.args.table (c.args.front.now ++ c.args.output.now ++ flat_map (λ part. part.now) c.args.shards.now)
+    (c.loop-shard.invariant ∙ ap (λ ys. c.args.front.now ++ c.args.output.now ++ flat_map (λ part. part.now) ys) (take_all c.loop-shard.shard-index c.args.shards.now (omega (arith, c.loop-shard-test.false))))

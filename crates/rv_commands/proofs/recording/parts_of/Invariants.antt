@@ -1,8 +1,6 @@
-use Rattle.std.proofs.Common.{◌≡◌, ℕ, ◌<◌, ◌++◌, Some}
-use Rattle.std.specs.List.{flat_map, range_with_len}
-use Rattle.rv_book.specs.Journal.{piece_at}
-use Rattle.rv_book.specs.declared.task.Piece.{Piece}
+use Rattle.std.proofs.Common.{◌≡◌, ◌++◌, take}
+use Rattle.std.specs.List.{flat_map}
 use Rattle.rv_commands.proofs.recording.parts_of.Given as goal
 
-abbrev pub invariant-loop-i : goal.invariant-loop-i
-invariant-loop-i g l = (piece : ℕ → Piece) → ((i : ℕ) → i < l.fn.shards → piece_at l.fn.book i ≡ Some (piece i)) → flat_map (λ part. part.now) l.parts.items ≡ l.fn.front ++ l.fn.output ++ flat_map (λ i. (piece i).bytes) (range_with_len 0 l.i)
+abbrev pub invariant-loop-shard : goal.invariant-loop-shard
+invariant-loop-shard l = flat_map (λ part. part.now) l.parts.items ≡ l.fn.front ++ l.fn.output ++ flat_map (λ part. part.now) (take l.shard-index l.fn.shards)
