@@ -172,10 +172,19 @@ fn run_both<J: Run + Send + Sync, W: Walking, P: Maker, G: Gate, R: Threads + Wa
 {
     let is_over = AtomicBool::new(false);
     let told = &is_over;
-    join(
+    // Where no thread can be started, the walk comes first, and the workers end behind it.
+    let (made, fed) = join(
         rt,
-        || -> Result<Fed, RunFault>
+        || -> Result<Took, NoMemory>
             requires sync { IsSync R.row × IsSync P.row × IsSync G.row }
+            requires pass { IsPassOf line.now rest }
+            requires view { view rest ≡ worker_hand (WORKERS_LIMIT - 1) }
+            requires workers { IsInRange 2 WORKERS_LIMIT workers }
+            requires due { (s : StartOf) → J.due s → P.takes maker.now s }
+            ensures pass { IfOk result (λ t. IsPassOf line.entry.now t.pass) }
+            ensures made { IfOk result (HasMade (P.piece maker.entry.now) false (WORKERS_LIMIT - 1) 0) }
+        { work_all(rt, alloc, maker, line, told, gate, 1, workers - 2, rest) },
+        || -> Result<Fed, RunFault>
             requires pass { IsPassOf line.now pass }
             requires view { view pass ≡ hand true 1 0 [] }
             requires waiting { ruled_capacity line.now ≡ J.waiting }
@@ -185,15 +194,8 @@ fn run_both<J: Run + Send + Sync, W: Walking, P: Maker, G: Gate, R: Threads + Wa
             ensures ok { IfOk result (HasFed (P.piece maker.entry.now) (W.state walk)) }
             ensures err { IfErr result (HasNoSurvey (W.state walk).image (W.state walk).input (W.state walk).size (W.state walk).budget) }
         { feed(rt, alloc, walk, maker, line, told, gate, pass) },
-        || -> Result<Took, NoMemory>
-            requires pass { IsPassOf line.now rest }
-            requires view { view rest ≡ worker_hand (WORKERS_LIMIT - 1) }
-            requires workers { IsInRange 2 WORKERS_LIMIT workers }
-            requires due { (s : StartOf) → J.due s → P.takes maker.now s }
-            ensures pass { IfOk result (λ t. IsPassOf line.entry.now t.pass) }
-            ensures made { IfOk result (HasMade (P.piece maker.entry.now) false (WORKERS_LIMIT - 1) 0) }
-        { work_all(rt, alloc, maker, line, told, gate, 1, workers - 2, rest) },
-    )
+    );
+    (fed, made)
 }
 
 /// Makes the pieces of the starts that are left, behind those that were made. No other pass has a part.
