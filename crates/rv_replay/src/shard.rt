@@ -9,7 +9,7 @@ ghost use Rattle.rv_replay.specs.Making.{HasMade, IsBegun, IsStartOf};
 ghost use Rattle.rv_replay.specs.Piece.{piece_of, piece_view, shard_piece};
 
 use crate::rows::Making;
-use rv_base::layout::HEAD_BYTES;
+use rv_base::layout::{ACCESS_BYTES, DIGESTS_BYTES, HEAD_BYTES, ROW_BYTES};
 use rv_base::{Bytes, NoMemory, Place};
 use rv_book::Piece;
 use rv_digest::{Lanes, SetDigest};
@@ -40,6 +40,14 @@ pub fn replay_start<L: Lanes>(
     finish(making, &pairing, start, lanes)
 }
 
+/// The accesses of a row that most rows don't exceed.
+const USUAL_ACCESSES: usize = 4;
+
+/// The bytes that a shard of so many rows seldom exceeds.
+fn usual_bytes(rows: u32) -> usize {
+    HEAD_BYTES + DIGESTS_BYTES + rows as usize * (ROW_BYTES + ACCESS_BYTES * USUAL_ACCESSES)
+}
+
 /// A shard before its first row, with room for its head.
 fn begin<'a>(
     alloc: Global,
@@ -52,7 +60,7 @@ fn begin<'a>(
 {
     let image = image.copy();
     let hart = Hart::resume(alloc, &image, input, start.place, start.cells.list())?;
-    let mut bytes = Vec::new(alloc);
+    let mut bytes = Vec::with_capacity(alloc, usual_bytes(start.rows))?;
     bytes.extend_from_slice(&[0; HEAD_BYTES])?;
     Ok(Making {
         hart,

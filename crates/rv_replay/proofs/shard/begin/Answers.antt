@@ -56,5 +56,5 @@ returns c =
       start = start-of i input program bytes s c.requires;
       image = image;
       input_is = c.in_ok-hart.ensures.input;
-      none_made = λ lanes pairing covers. begun i input lanes s.step s.rows _ pairing replaying (ap length c.in_ok-extend_from_slice.ensures.items ∙ ap (λ (bs : List ℕ). length (bs ++ replicate 32 0)) c.new-bytes.ensures.items) covers refl;
+      none_made = λ lanes pairing covers. begun i input lanes s.step s.rows _ pairing replaying (ap length c.in_ok-extend_from_slice.ensures.items ∙ ap (λ (bs : List ℕ). length (bs ++ replicate 32 0)) c.in_ok-bytes.ensures.items) covers refl;
     }
