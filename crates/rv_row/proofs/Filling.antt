@@ -16,9 +16,9 @@ pub regroup : (t a b c d e : List ℕ) → ((((t ++ a) ++ b) ++ c) ++ d) ++ e �
 regroup t a b c d e = simp append_assoc
 
 -- the three fields in front of a row's accesses
-pub row-front : (pc next count : ℕ) (zeros a b : List ℕ) → length zeros ≡ 177 → SetsNumber w32 0 pc zeros a → SetsNumber w32 4 next a b
+pub row-front : (pc next count : ℕ) (old a b : List ℕ) → 9 ≤ length old → SetsNumber w32 0 pc old a → SetsNumber w32 4 next a b
     → take 9 (set b 8 count) ≡ to_le_bytes w32 pc ++ to_le_bytes w32 next ++ count ∷ []
-row-front pc next count zeros a b long first second =
-    let one : take 4 a ≡ to_le_bytes w32 pc = fills w32 0 4 pc zeros a [] refl refl (omega arith) refl first in
+row-front pc next count old a b long first second =
+    let one : take 4 a ≡ to_le_bytes w32 pc = fills w32 0 4 pc old a [] refl refl (omega arith) refl first in
     let two : take 8 b ≡ to_le_bytes w32 pc ++ to_le_bytes w32 next = fills w32 4 8 next a b (to_le_bytes w32 pc) refl refl (omega (arith, first.size)) one second in
     take_more_set b 8 count (omega (arith, first.size, second.size)) ∙ ap (λ (xs : List ℕ). xs ++ count ∷ []) two

@@ -2,19 +2,15 @@
 
 ghost use Rattle.std.specs.Prelude.{◌≡◌, ◌+◌, ◌*◌, ◌≤◌, ◌++◌, length, take, OnOk, OnErr};
 ghost use Rattle.std.specs.List.{flat_map};
-ghost use Rattle.rv_spec.specs.Record.{access_bytes, row_bytes};
+ghost use Rattle.rv_spec.specs.Record.{access_bytes, row_bytes, row_length};
 ghost use Rattle.rv_row.specs.RowReading.{row_view};
 
 use crate::rows::Row;
-use rv_base::cells::SLOTS;
 use rv_base::layout::{
     ACCESS_BYTES, ACCESS_CELL_AT, ACCESS_NEW_AT, ACCESS_OLD_AT, ACCESS_PREV_AT, ROW_BYTES,
     ROW_COUNT_AT, ROW_NEXT_AT, ROW_PC_AT,
 };
 use rv_base::{Access, NoMemory, set32, set64};
-
-/// The most bytes that a row has.
-const LONGEST: usize = ROW_BYTES + ACCESS_BYTES * SLOTS;
 
 /// Writes the 21 bytes of an access at a place.
 fn write_access(bytes: &mut [u8], at: usize, access: &Access)
@@ -38,18 +34,16 @@ fn write_accesses(bytes: &mut [u8], accesses: &[Access])
     }
 }
 
-/// Writes the bytes of a row at the front, and tells how many there are.
-fn fill_row(bytes: &mut [u8], row: &Row) -> usize
-    requires { length bytes.old ≡ LONGEST }
-    ensures most { result ≤ LONGEST }
-    ensures filled { take result bytes.new ≡ row_bytes (row_view row.now) }
+/// Writes the bytes of a row, of as many bytes.
+fn fill_row(bytes: &mut [u8], row: &Row)
+    requires { length bytes.old ≡ row_length (row_view row.now) }
+    ensures { bytes.new ≡ row_bytes (row_view row.now) }
 {
     let accesses = row.accesses.as_slice();
     set32(bytes, ROW_PC_AT, row.pc);
     set32(bytes, ROW_NEXT_AT, row.next);
     bytes[ROW_COUNT_AT] = accesses.len() as u8;
     write_accesses(bytes, accesses);
-    ROW_BYTES + ACCESS_BYTES * accesses.len()
 }
 
 /// Appends the bytes of a row: pc (4 bytes), next (4), the number of accesses (1), and 21 bytes for each access. After a refusal `to` is as it was.
@@ -58,8 +52,9 @@ pub fn write_row(row: &Row, to: &mut Vec<u8>) -> Result<(), NoMemory>
     ensures ok { OnOk result (to.new.items ≡ to.old.items ++ row_bytes (row_view row.now)) }
     ensures err { OnErr result (to.new.items ≡ to.old.items) }
 {
-    let mut bytes = [0; LONGEST];
-    let length = fill_row(&mut bytes, row);
-    to.extend_from_slice(&bytes[..length])?;
+    let at = to.len();
+    to.resize(at + ROW_BYTES + ACCESS_BYTES * row.accesses.len(), 0)?;
+    // In place: bytes that are written one by one, and then copied by many, would be waited for.
+    fill_row(&mut to[at..], row);
     Ok(())
 }
