@@ -13,7 +13,7 @@ use crate::subject::Subject;
 use rv_base::rules::{ROW_SHAPE, SHORT};
 use rv_base::{Place, Refusal};
 use rv_digest::Lanes;
-use rv_row::{Row, RowRead, read_row};
+use rv_row::{Row, RowFound, read_row_into};
 use rv_rowcheck::check_row;
 
 /// The place after a row, or the least rule that it breaks at a place.
@@ -53,22 +53,23 @@ impl RowsLeft {
 }
 
 impl Machine {
-    /// The next row of a shard.
+    /// The next row of a shard, which is put in place of another.
     pub(crate) fn row<L: Lanes>(
         &mut self,
         subject: &Subject<'_, '_>,
         lanes: &L,
         rows: RowsLeft,
         bytes: &[u8],
+        row: &mut Row,
     ) -> Result<usize, Refusal>
         requires some { 0 < rows.left }
         requires fits { FitsAt subject.now self.old.place (RowsPhase rows) }
         ensures { Goes L.lanes subject.now (phase_at L.lanes (RowsPhase rows) self.old.place self.old.shard self.old.all) self.old self.new bytes.now result }
     {
-        match read_row(bytes) {
-            RowRead::Row(row, length) => {
+        match read_row_into(bytes, row) {
+            RowFound::Row(length) => {
                 let step = subject.step_of(rows.shard, rows.next);
-                match judge_row(subject, &row, step, self.place) {
+                match judge_row(subject, row, step, self.place) {
                     Ok(after) => {
                         self.phase = Phase::Rows(rows.behind_row(length));
                         self.place = after;
@@ -78,8 +79,8 @@ impl Machine {
                     Err(rule) => Err(Refusal::at(rows.shard, rows.next, rule)),
                 }
             }
-            RowRead::Short => Err(Refusal::at(rows.shard, rows.next, SHORT)),
-            RowRead::Shape => Err(Refusal::at(rows.shard, rows.next, ROW_SHAPE)),
+            RowFound::Short => Err(Refusal::at(rows.shard, rows.next, SHORT)),
+            RowFound::Shape => Err(Refusal::at(rows.shard, rows.next, ROW_SHAPE)),
         }
     }
 }

@@ -29,7 +29,7 @@ returns-in-Ok g c =
     ∙ ap (λ (z : List Access). with_events true g.L.Lanes.lanes (sums_in g.L.Lanes.lanes m.shard) (map (event c.step_of-step.result) z)) c.as_slice.ensures.value in
     record {
       found =
-          row-reached g.L.Lanes.lanes s r.next r.behind r.shard (inside_of g.L.Lanes.lanes r m.shard) m.place (totals_of g.L.Lanes.lanes m.all) c.args.bytes.now r.left c.in-Row.length c.step_of-step.result (row_view c.in-Row.row) c.in-Ok.after (sums_in g.L.Lanes.lanes c.accesses.new.self)
+          row-reached g.L.Lanes.lanes s r.next r.behind r.shard (inside_of g.L.Lanes.lanes r m.shard) m.place (totals_of g.L.Lanes.lanes m.all) c.args.bytes.now r.left c.in-Row.length c.step_of-step.result (row_view c.read_row_into.new.row) c.in-Ok.after (sums_in g.L.Lanes.lanes c.accesses.new.self)
           c.requires.some read.0 read.1 read.2 c.step_of-step.ensures.value judged.0 judged.1 added
           ∙ ap (λ (z : RowsLeft). Ok (Some (Rows z.left z.next z.behind z.shard (inside_of g.L.Lanes.lanes z c.accesses.new.self) c.in-Ok.after (totals_of g.L.Lanes.lanes m.all), drop c.in-Row.length c.args.bytes.now))) (sym c.behind_row.ensures);
       taken = read.3;
@@ -50,7 +50,7 @@ returns-in-Err g c =
     let m = c.args.self.now in
     let s = c.args.subject.now in
     let read = c.in-Row.ensures.exact in
-    let row = row_view c.in-Row.row in
+    let row = row_view c.read_row_into.new.row in
     let rule = ap (λ n. row_rule s.header.version row n m.place (last_of s.header n) s.input s.output) (sym c.step_of-step.ensures.value) ∙ c.in-Err.ensures.answer in
     let found = row-false g.L.Lanes.lanes s r.next r.behind r.shard (inside_of g.L.Lanes.lanes r m.shard) m.place (totals_of g.L.Lanes.lanes m.all) c.args.bytes.now r.left c.in-Err.rule row c.requires.some read.0 read.1 rule in
     (found ∙ ap (λ (x : Refusal). Err x) (sym c.at.ensures), refl)
