@@ -37,7 +37,7 @@ fn read_accesses(bytes: &[u8], count: usize, accesses: &mut ArrayVec<Access, SLO
     requires there { ROW_BYTES + ACCESS_BYTES * count ≤ length bytes.now }
     ensures { accesses.new.items ≡ map (λ j. access_of (drop (ROW_BYTES + ACCESS_BYTES * j) bytes.now)) (range_with_len 0 count) }
 {
-    accesses.clear();
+    *accesses = ArrayVec::new();
     for j in 0..count {
         accesses.push(read_access(&bytes[ROW_BYTES + ACCESS_BYTES * j..]));
     }

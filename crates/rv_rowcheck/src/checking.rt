@@ -92,6 +92,7 @@ fn place_after(place: Place, due: &Expected) -> Place
 /// # Errors
 ///
 /// The number of the least rule of 11 to 19 that the row breaks.
+#[inline(always)]
 pub fn check_row(
     version: u8,
     row: &Row,
