@@ -33,6 +33,7 @@ pub struct Expected {
 /// The step at `pc` and a position of the input, in a version of the machine: 1 for RV32IM, 2 for
 /// RV32IMA (RISC-V Unprivileged ISA). `seen` has the old value in each slot, with the instruction
 /// word in slot 1. It knows nothing else of registers and memory.
+#[inline(always)]
 pub fn expect(version: u8, pc: u32, seen: &Seen, input: &[u8], at: u64) -> Expected
     requires version { (version ≡ 1) ⊎ (version ≡ 2) }
     requires aligned { pc % 4 ≡ 0 }
@@ -59,6 +60,7 @@ pub fn expect(version: u8, pc: u32, seen: &Seen, input: &[u8], at: u64) -> Expec
 }
 
 /// Makes a step that has no access yet, whose word is decoded.
+#[inline(always)]
 pub(crate) fn make(step: &Step<'_, '_>, touches: &mut Touches, decoded: Decoded) -> Outcome
     requires begins { array_vec_len touches.old.list ≡ 0 }
     requires within { step.now.at ≤ length step.now.input.now }
@@ -69,6 +71,7 @@ pub(crate) fn make(step: &Step<'_, '_>, touches: &mut Touches, decoded: Decoded)
 }
 
 /// The step of a decoded word.
+#[inline(always)]
 fn after_fetch(step: &Step<'_, '_>, touches: &mut Touches, decoded: Decoded) -> Outcome
     requires room { array_vec_len touches.old.list ≤ 1 }
     requires within { step.now.at ≤ length step.now.input.now }

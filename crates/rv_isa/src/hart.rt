@@ -12,14 +12,12 @@ ghost use Rattle.rv_isa.specs.HartState.{StandsFor, IsTimed};
 ghost use Rattle.rv_isa.specs.Resumed.{IsKnown, HoldsListed, resumed};
 ghost use Rattle.rv_isa.specs.Hart.{TakesStepFrom, TakesTimes};
 ghost use Rattle.rv_isa.specs.Look.{TellsStep};
-ghost use Rattle.rv_row.specs.RowReading.{row_view};
 
 use crate::expected::make;
 use crate::finding::find;
 use crate::look::Look;
 use crate::restoring::restore;
 use crate::step::Step;
-use arrayvec::ArrayVec;
 use rv_base::{End, NoMemory, Place, TableEntry};
 use rv_elf::Image;
 use rv_mem::Memory;
@@ -35,17 +33,6 @@ pub struct Stepped {
     pub took: u32,
     pub put: u32,
     pub word: u32,
-}
-
-/// A row without an access, in whose place a step can leave its own.
-pub fn no_row() -> Row
-    ensures { row_view result ≡ record { pc = 0; next = 0; accesses = [] } }
-{
-    Row {
-        pc: 0,
-        next: 0,
-        accesses: ArrayVec::new(),
-    }
 }
 
 /// A hart of RV32IM and RV32IMA (RISC-V Unprivileged ISA) between two steps: its cells with the time of their

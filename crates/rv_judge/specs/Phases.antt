@@ -1,6 +1,7 @@
 -- The phases of the code as those of the machine.
-use Rattle.std.specs.Prelude.{◌≡◌, ℕ, ◌+◌, ◌*◌, ◌^◌, ◌≤◌, ◌<◌, Bool, ◌&&◌, ◌==◌, List, [], ◌∷◌, length, drop, bytes_eq, nat_lt, Option, Some, None, Result, Ok, Err}
+use Rattle.std.specs.Prelude.{◌≡◌, ℕ, ◌+◌, ◌-◌, ◌*◌, ◌^◌, ◌≤◌, ◌<◌, Bool, ◌&&◌, ◌==◌, List, [], ◌∷◌, length, drop, bytes_eq, nat_lt, Option, Some, None, Result, Ok, Err}
 use Rattle.rv_base.specs.declared.cells.TheConstants.{SLOTS}
+use Rattle.rv_base.specs.declared.limits.TheConstants.{SHARD_SIZE_LIMIT}
 use Rattle.rv_base.specs.declared.rules.TheConstants.{TABLE_ORDER, TABLE_CELL, TABLE_TIME, LEFT, BALANCE, TRAILING}
 use Rattle.rv_base.specs.declared.layout.TheConstants.{ROW_BYTES, ACCESS_BYTES, HEAD_BYTES}
 use Rattle.rv_base.specs.declared.record.Header.{Header}
@@ -82,6 +83,18 @@ pub record FitsAt (s : Subject) (p : Place) (q : Phase) : Type 0 where
   pub within : IsWithin s.header
   pub place : IsPlace p s.input s.output
   pub phase : PhaseFits s.header q
+
+-- where rows are left, the next can have so many bytes
+abbrev pub CanPass : Phase → ℕ → Type 0
+CanPass (Rows r) length = (0 < r.left) × (r.next < SHARD_SIZE_LIMIT) × (r.bytes ≤ longest_row * r.next) × (length ≤ longest_row)
+CanPass (Shards left next) length = Unit {0}
+CanPass (Entries left next before) length = Unit {0}
+
+-- where rows are left, behind a row of so many bytes
+abbrev pub behind_row : Phase → ℕ → Phase
+behind_row (Rows r) length = Rows (record r { left = r.left - 1; next = r.next + 1; bytes = r.bytes + length })
+behind_row (Shards left next) length = Shards left next
+behind_row (Entries left next before) length = Entries left next before
 
 abbrev pub Fits : Subject → Machine → Type 0
 Fits s m = FitsAt s m.place m.phase

@@ -12,6 +12,7 @@ use crate::sums::Totals;
 use rv_base::{Place, Refusal, ShardHead};
 use rv_digest::Lanes;
 use rv_pairs::Pairing;
+use rv_row::Row;
 
 /// How far to read: the whole file, one shard or the table.
 #[derive(Clone, Copy)]
@@ -75,12 +76,13 @@ impl Machine {
     }
 
     /// One step: how many bytes are taken from the front, None where the reading may end, or the first broken check. This is by
-    /// rule 1 where more bytes may be missing.
+    /// rule 1 where more bytes may be missing. A row that is read is put in place of another.
     pub fn step<L: Lanes>(
         &mut self,
         subject: &Subject<'_, '_>,
         lanes: &L,
         bytes: &[u8],
+        row: &mut Row,
     ) -> Result<Option<usize>, Refusal>
         requires { Fits subject.now self.old }
         ensures { Steps L.lanes subject.now self.old self.new bytes.now result }
@@ -97,7 +99,7 @@ impl Machine {
                 if rows.left == 0 {
                     Ok(Some(self.end_shard(subject, lanes, rows, bytes)?))
                 } else {
-                    Ok(Some(self.row(subject, lanes, rows, bytes)?))
+                    Ok(Some(self.row(subject, lanes, rows, bytes, row)?))
                 }
             }
             Phase::Entries { left, next, before } => {

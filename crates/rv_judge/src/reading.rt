@@ -9,6 +9,7 @@ use crate::phases::{Extent, Machine};
 use crate::subject::Subject;
 use rv_base::Refusal;
 use rv_digest::Lanes;
+use rv_row::no_row;
 
 /// Where a reading stops: the bytes that are left, and the first broken check, or None where the reading may end.
 #[derive(Clone, Copy)]
@@ -36,8 +37,10 @@ impl Machine {
         ensures behind { result.left.now ≡ drop (length bytes.now - length result.left.now) bytes.now }
     {
         let mut left = bytes;
+        // Each row is read in place of the one before.
+        let mut row = no_row();
         while !self.is_behind(extent) {
-            match self.step(subject, lanes, left) {
+            match self.step(subject, lanes, left, &mut row) {
                 Ok(Some(length)) => left = &left[length..],
                 Ok(None) => {
                     return Stop {

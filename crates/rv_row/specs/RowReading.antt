@@ -7,11 +7,19 @@ use Rattle.rv_spec.specs.Grammar.{RowFits}
 use Rattle.rv_rules.specs.Reading.{row_of, row_form, row_size}
 use Rattle.rv_rules.specs.Checks.{first_broken}
 use Rattle.rv_row.specs.declared.rows.Row.{Row}
+use Rattle.rv_row.specs.declared.rows.RowFound.{RowFound}
+use Rattle.rv_row.specs.declared.rows.RowFound.TheVariants as found
 use Rattle.rv_row.specs.declared.rows.RowRead.{RowRead}
 use Rattle.rv_row.specs.declared.rows.RowRead.TheVariants as read
 
 abbrev pub row_view : Row → Traced
 row_view r = record { pc = r.pc; next = r.next; accesses = r.accesses.items }
+
+-- what is found, with the row that is then in its caller's place
+abbrev pub found_in : Row → RowFound → RowRead
+found_in r (found.Row n) = read.Row r n
+found_in r found.Short = read.Short
+found_in r found.Shape = read.Shape
 
 -- What reading a row at the front of bytes answers: the row and its length where its form is good, else which check of form is the first to be broken.
 abbrev pub ReadsRow : List ℕ → RowRead → Type 0

@@ -5,8 +5,8 @@ mod reading;
 mod rows;
 mod writing;
 
-pub use reading::{one_row, read_row};
-pub use rows::{Row, RowRead};
+pub use reading::{one_row, read_row, read_row_into};
+pub use rows::{Row, RowFound, RowRead, no_row};
 pub use writing::write_row;
 
 #[cfg(test)]

@@ -58,6 +58,7 @@ fn agrees(access: &Access, touch: &Touch, step: u64) -> bool
 }
 
 /// Whether slots, cells, values and times all agree, in one pass. Which of them does not is asked only of a row that is refused.
+#[inline(always)]
 pub(crate) fn all_agree(accesses: &[Access], touches: &[Touch], step: u64) -> bool
     requires { step < 2 ^ 32 }
     ensures { result ≡ (bytes_eq (map (λ a. a.slot) accesses.now) (map (λ t. t.slot) touches.now)

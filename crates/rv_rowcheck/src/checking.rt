@@ -27,14 +27,12 @@ fn first_broken(checks: &[(u8, bool)]) -> Option<u8>
     None
 }
 
-/// The least rule that the accesses of a row break.
-fn broken_access(accesses: &[Access], touches: &[Touch], step: u64) -> Option<u8>
+/// The least rule that the accesses of a row break, rule by rule. It stays out of the way of rows that break none.
+#[inline(never)]
+fn least_broken(accesses: &[Access], touches: &[Touch], step: u64) -> Option<u8>
     requires { step < 2 ^ 32 }
     ensures { result ≡ rules.first_broken (access_checks step accesses.now touches.now) }
 {
-    if all_agree(accesses, touches, step) {
-        return None;
-    }
     first_broken(&[
         (SLOT, slots_agree(accesses, touches)),
         (CELL, cells_agree(accesses, touches)),
@@ -43,7 +41,20 @@ fn broken_access(accesses: &[Access], touches: &[Touch], step: u64) -> Option<u8
     ])
 }
 
+/// The least rule that the accesses of a row break.
+#[inline(always)]
+fn broken_access(accesses: &[Access], touches: &[Touch], step: u64) -> Option<u8>
+    requires { step < 2 ^ 32 }
+    ensures { result ≡ rules.first_broken (access_checks step accesses.now touches.now) }
+{
+    if all_agree(accesses, touches, step) {
+        return None;
+    }
+    least_broken(accesses, touches, step)
+}
+
 /// The least rule that a row at its place breaks, against its expected step.
+#[inline(always)]
 fn broken(
     row: &Row,
     due: &Expected,
@@ -92,6 +103,7 @@ fn place_after(place: Place, due: &Expected) -> Place
 /// # Errors
 ///
 /// The number of the least rule of 11 to 19 that the row breaks.
+#[inline(always)]
 pub fn check_row(
     version: u8,
     row: &Row,

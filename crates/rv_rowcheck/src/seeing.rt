@@ -10,6 +10,7 @@ use rv_base::cells::{
 use rv_base::{Access, Seen};
 
 /// The old value of the first access in each slot, or 0. The last of the accesses is looked at first, so that the first one stays.
+#[inline(always)]
 fn old_values(accesses: &[Access]) -> [u32; SLOTS + 1]
     ensures { OldValues accesses.now result }
 {
@@ -24,6 +25,7 @@ fn old_values(accesses: &[Access]) -> [u32; SLOTS + 1]
 }
 
 /// The old value in each of the slots 1 to 8: that of the first access there, or 0. An access in another slot counts for nothing.
+#[inline(always)]
 pub(crate) fn seen(accesses: &[Access]) -> Seen
     ensures { result ≡ rules.seen accesses.now }
 {

@@ -3,11 +3,11 @@
 ghost use Rattle.std.specs.Prelude.{◌≤◌, length, IfOk};
 
 use super::machine::{EXITS, OVERWRITE, file_of};
-use crate::hart::{Hart, no_row};
+use crate::hart::Hart;
 use rv_base::machine::{EXIT, ILLEGAL_WORD};
 use rv_base::{Access, End, Place, TableEntry};
 use rv_elf::read;
-use rv_row::Row;
+use rv_row::{Row, no_row};
 use std::test::Fail;
 
 /// The accesses of `add x2, x2, x2` as the first step: slot, cell, old value, time of the use before, new value.
