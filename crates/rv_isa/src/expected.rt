@@ -59,6 +59,7 @@ pub fn expect(version: u8, pc: u32, seen: &Seen, input: &[u8], at: u64) -> Expec
 }
 
 /// Makes a step that has no access yet, whose word is decoded.
+#[inline(always)]
 pub(crate) fn make(step: &Step<'_, '_>, touches: &mut Touches, decoded: Decoded) -> Outcome
     requires begins { array_vec_len touches.old.list ≡ 0 }
     requires within { step.now.at ≤ length step.now.input.now }
@@ -69,6 +70,7 @@ pub(crate) fn make(step: &Step<'_, '_>, touches: &mut Touches, decoded: Decoded)
 }
 
 /// The step of a decoded word.
+#[inline(always)]
 fn after_fetch(step: &Step<'_, '_>, touches: &mut Touches, decoded: Decoded) -> Outcome
     requires room { array_vec_len touches.old.list ≤ 1 }
     requires within { step.now.at ≤ length step.now.input.now }
