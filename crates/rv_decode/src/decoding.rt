@@ -12,6 +12,7 @@ use rv_base::{Cond, Instr, LoadKind, Op, StoreKind};
 /// The instruction of RV32I or M that a word spells ("RV32/64G Instruction Set Listings"),
 /// or None where no row of the table fits the word.
 #[tactic(auto)]
+#[inline(always)]
 pub fn decode(word: u32) -> Option<Instr>
     ensures row { result ≡ isa.decode word }
     ensures one_row { FitsOneRow isa.rv32im_table word }
@@ -20,6 +21,7 @@ pub fn decode(word: u32) -> Option<Instr>
     by_opcode(word)
 }
 
+#[inline(always)]
 fn by_opcode(word: u32) -> Option<Instr>
     ensures { result ≡ isa.decode word }
 {

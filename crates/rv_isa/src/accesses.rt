@@ -27,6 +27,7 @@ impl Touches {
     }
 
     /// An access in a slot, which leaves a new value in its cell.
+    #[inline(always)]
     pub fn touch(&mut self, slot: u8, cell: u32, new: u32)
         requires { array_vec_len self.old.list < 8 }
         ensures items { self.new.list.items ≡ self.old.list.items ++ isa.touch slot cell new }
@@ -36,6 +37,7 @@ impl Touches {
     }
 
     /// An access of a register, unless it is x0.
+    #[inline(always)]
     pub fn on_register(&mut self, slot: u8, register: u8, new: u32)
         requires { array_vec_len self.old.list < 8 }
         ensures items { self.new.list.items ≡ self.old.list.items ++ isa.on_register slot register new }
@@ -47,6 +49,7 @@ impl Touches {
     }
 
     /// rs1 is read.
+    #[inline(always)]
     pub fn read_one(&mut self, seen: &Seen, rs1: u8)
         requires { array_vec_len self.old.list < 8 }
         ensures items { self.new.list.items ≡ self.old.list.items ++ isa.reads_one rs1 seen.now }
@@ -56,6 +59,7 @@ impl Touches {
     }
 
     /// rs1 is read, and then rs2.
+    #[inline(always)]
     pub fn read_two(&mut self, seen: &Seen, rs1: u8, rs2: u8)
         requires { array_vec_len self.old.list < 7 }
         ensures items { self.new.list.items ≡ self.old.list.items ++ isa.reads_two rs1 rs2 seen.now }
@@ -66,6 +70,7 @@ impl Touches {
     }
 
     /// The number of a call and its three arguments are read.
+    #[inline(always)]
     pub fn read_arguments(&mut self, seen: &Seen)
         requires { array_vec_len self.old.list ≤ 1 }
         ensures items { self.new.list.items ≡ self.old.list.items ++ isa.argument_touches seen.now }
@@ -77,6 +82,7 @@ impl Touches {
     }
 
     /// The word of a call's buffer, where the call moves bytes.
+    #[inline(always)]
     pub fn on_buffer(&mut self, buffer: u32, count: u32, new: u32)
         requires { array_vec_len self.old.list ≤ 5 }
         ensures items { self.new.list.items ≡ self.old.list.items ++ isa.on_buffer buffer count new }

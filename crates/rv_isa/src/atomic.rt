@@ -14,6 +14,7 @@ use rv_base::{Atomic, AtomicOp};
 
 /// The expected step of an atomic instruction.
 #[tactic(auto, unfolding(rv_rules::specs::Expected::expected_atomic), using(crate::proofs::Made::made))]
+#[inline(always)]
 pub(crate) fn atomic(step: &Step<'_, '_>, touches: &mut Touches, atomic: Atomic) -> Outcome
     requires { array_vec_len touches.old.list ≤ 1 }
     ensures { AppendsExpected (isa.expected_atomic step.now.pc atomic step.now.seen.now) touches.old.list.items touches.new.list.items result }
@@ -40,6 +41,7 @@ fn misaligned_kind(op: AtomicOp) -> u8
 }
 
 /// What an aligned atomic instruction accesses after its reads. A reservation is the reserved address and 1.
+#[inline(always)]
 fn write(step: &Step<'_, '_>, touches: &mut Touches, atomic: Atomic, address: u32, value: u32)
     requires room { array_vec_len touches.old.list ≤ 5 }
     requires aligned { address % 4 ≡ 0 }
@@ -63,6 +65,7 @@ fn write(step: &Step<'_, '_>, touches: &mut Touches, atomic: Atomic, address: u3
 }
 
 /// A store-conditional stores where its word is reserved, and the reservation ends.
+#[inline(always)]
 fn store_conditional(step: &Step<'_, '_>, touches: &mut Touches, rd: u8, address: u32, value: u32)
     requires room { array_vec_len touches.old.list ≤ 5 }
     requires aligned { address % 4 ≡ 0 }

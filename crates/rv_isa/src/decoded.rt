@@ -18,6 +18,7 @@ pub(crate) enum Decoded {
 
 impl Decoded {
     /// What a word is in a version.
+    #[inline(always)]
     pub fn of_word(version: u8, word: u32) -> Decoded
         ensures { any_of result ≡ decode_any version word }
     {
@@ -32,6 +33,7 @@ impl Decoded {
 }
 
 /// The atomic instruction of a word, in a version that has it.
+#[inline(always)]
 fn atomic_of(version: u8, word: u32) -> Option<Atomic>
     ensures { result ≡ (if version == 2 then spec.decode_atomic word else None) }
 {

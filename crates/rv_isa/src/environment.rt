@@ -15,6 +15,7 @@ use rv_base::machine::{BAD_DESCRIPTOR, EXIT, EXIT_CALL, EXIT_GROUP, NO_SUCH_CALL
 
 /// The expected step of a call of the environment.
 #[tactic(auto, unfolding(rv_rules::specs::Expected::expected_call), using(crate::proofs::Made::made))]
+#[inline(always)]
 pub(crate) fn call(step: &Step<'_, '_>, touches: &mut Touches) -> Outcome
     requires room { array_vec_len touches.old.list ≤ 1 }
     requires within { step.now.at ≤ length step.now.input.now }
@@ -69,6 +70,7 @@ fn from_lane(word: u32, lane: u32, count: u32) -> u32
 
 /// From standard input into the buffer.
 #[tactic(auto, using(crate::proofs::Made::made))]
+#[inline(always)]
 fn read(step: &Step<'_, '_>, touches: &mut Touches) -> Outcome
     requires room { array_vec_len touches.old.list ≤ 1 }
     requires within { step.now.at ≤ length step.now.input.now }
@@ -91,6 +93,7 @@ fn read(step: &Step<'_, '_>, touches: &mut Touches) -> Outcome
 
 /// From the buffer to standard output, or to standard error, which is not kept.
 #[tactic(auto, using(crate::proofs::Made::made))]
+#[inline(always)]
 fn write(step: &Step<'_, '_>, touches: &mut Touches) -> Outcome
     requires { array_vec_len touches.old.list ≤ 1 }
     ensures { AppendsExpected (isa.expected_write step.now.pc step.now.seen.now) touches.old.list.items touches.new.list.items result }

@@ -31,6 +31,7 @@ pub(crate) struct Found {
 }
 
 /// What the step at `pc` finds. Its word is decoded once.
+#[inline(always)]
 pub(crate) fn find(cells: &Memory<'_>, pc: u32) -> Found
     ensures decoded { any_of result.decoded ≡ decode_any cells.now.image.version result.seen.s1 }
     ensures sees { (input : List ℕ) (s : State) → IsState s → CellsRepresent cells.now s → s.version ≡ cells.now.image.version → s.pc ≡ pc → Sees result.seen s (step_uses input s) }
@@ -42,6 +43,7 @@ pub(crate) fn find(cells: &Memory<'_>, pc: u32) -> Found
 }
 
 /// The word of the instruction at an address.
+#[inline(always)]
 fn fetch(cells: &Memory<'_>, pc: u32) -> u32
     ensures { (s : State) → IsState s → CellsRepresent cells.now s → s.pc ≡ pc → result ≡ fetch_word s }
 {
@@ -50,6 +52,7 @@ fn fetch(cells: &Memory<'_>, pc: u32) -> u32
 
 /// The old values that the step of a fetched word finds in its slots. A slot that it doesn't use may
 /// have any value.
+#[inline(always)]
 fn see(cells: &Memory<'_>, word: u32, decoded: Decoded) -> Seen
     ensures word { result.s1 ≡ word }
     ensures sees { (input : List ℕ) (s : State) → IsState s → CellsRepresent cells.now s → word ≡ fetch_word s → any_of decoded ≡ decode_any s.version word → Sees result s (step_uses input s) }
@@ -68,6 +71,7 @@ fn see(cells: &Memory<'_>, word: u32, decoded: Decoded) -> Seen
 }
 
 /// The word of memory at an address, if there is one.
+#[inline(always)]
 fn addressed(cells: &Memory<'_>, address: Option<Address>) -> u32
     ensures { (s : State) → IsState s → CellsRepresent cells.now s → IsBased address → word_at s address < REGISTER_CELLS → result ≡ value s (word_at s address) }
 {
@@ -78,6 +82,7 @@ fn addressed(cells: &Memory<'_>, address: Option<Address>) -> u32
 }
 
 /// The number of the byte at an address.
+#[inline(always)]
 fn byte_address(cells: &Memory<'_>, address: Address) -> u32
     ensures { result ≡ plus (operand_of address.base (value_at cells.now (REGISTER_CELLS + address.base))) address.offset }
 {
@@ -86,6 +91,7 @@ fn byte_address(cells: &Memory<'_>, address: Address) -> u32
 }
 
 /// What a register holds, or 0 for x0.
+#[inline(always)]
 fn register(cells: &Memory<'_>, register: u8) -> u32
     ensures { result ≡ value_at cells.now (REGISTER_CELLS + register) }
 {
@@ -93,6 +99,7 @@ fn register(cells: &Memory<'_>, register: u8) -> u32
 }
 
 /// What a cell holds. A number that is no cell's has 0.
+#[inline(always)]
 fn held(cells: &Memory<'_>, cell: u32) -> u32
     ensures { result ≡ value_at cells.now cell }
 {

@@ -156,6 +156,7 @@ impl<'a> Hart<'a> {
     }
 
     /// Looks at the next step, and puts its accesses and where it goes into a look that has none.
+    #[inline(never)]
     pub(crate) fn look(&self, look: &mut Look)
         requires begins { array_vec_len look.old.touches.list ≡ 0 }
         requires none { look.old.touches.list.items ≡ [] }

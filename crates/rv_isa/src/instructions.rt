@@ -17,6 +17,7 @@ use rv_base::{Instr, LoadKind, StoreKind};
 
 /// The expected step of an instruction.
 #[tactic(auto, unfolding(rv_rules::specs::Expected::expected_instr), using(crate::proofs::Made::made))]
+#[inline(always)]
 pub(crate) fn instruction(step: &Step<'_, '_>, touches: &mut Touches, instr: Instr) -> Outcome
     requires room { array_vec_len touches.old.list ≤ 1 }
     requires within { step.now.at ≤ length step.now.input.now }
@@ -104,6 +105,7 @@ fn store_width(kind: StoreKind) -> u32
 
 /// A load from an address, after the reads.
 #[tactic(auto, using(crate::proofs::Made::lanes))]
+#[inline(always)]
 fn load(step: &Step<'_, '_>, touches: &mut Touches, kind: LoadKind, rd: u8, address: u32) -> Outcome
     requires { array_vec_len touches.old.list < 7 }
     ensures { AppendsExpected (isa.moves step.now.pc (spec.load_width kind) address MISALIGNED_LOAD [] (isa.touch MEMORY_SLOT (address / 4) step.now.seen.now.s6 ++ isa.on_register RD_SLOT rd (isa.extract kind step.now.seen.now.s6 (address % 4)))) touches.old.list.items touches.new.list.items result }
@@ -118,6 +120,7 @@ fn load(step: &Step<'_, '_>, touches: &mut Touches, kind: LoadKind, rd: u8, addr
 
 /// A store to an address, after the reads.
 #[tactic(auto, using(crate::proofs::Made::lanes))]
+#[inline(always)]
 fn store(
     step: &Step<'_, '_>,
     touches: &mut Touches,

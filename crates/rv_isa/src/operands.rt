@@ -33,6 +33,7 @@ pub(crate) struct Operands {
 
 impl Operands {
     /// The operands of a word that is decoded.
+    #[inline(always)]
     pub fn of_decoded(decoded: Decoded) -> Operands
         ensures based { IfSome (any_of decoded) HasAnyFields → IsBased result.address }
         ensures covered { (input : List ℕ) (s : State) → IsState s → AllByRecursion (IsCovered result s) (instruction_uses input (any_of decoded) s) }
@@ -44,6 +45,7 @@ impl Operands {
         }
     }
 
+    #[inline(always)]
     fn of_registers(rs1: u8, rs2: u8, rd: u8) -> Operands
         ensures { result ≡ record { rs1 = rs1; rs2 = rs2; rd = rd; address = None } }
     {
@@ -57,6 +59,7 @@ impl Operands {
 
     /// The operands of an instruction of RV32I or M.
     #[tactic(auto, unfolding(rv_spec::specs::Visits::uses), using(crate::proofs::Covered::covering))]
+    #[inline(always)]
     fn of_instruction(instr: Instr) -> Operands
         ensures based { HasFields instr → IsBased result.address }
         ensures covered { (input : List ℕ) (s : State) → IsState s → AllByRecursion (IsCovered result s) (uses input instr s) }
@@ -97,6 +100,7 @@ impl Operands {
 
     /// The operands of an instruction of extension A.
     #[tactic(auto, unfolding(rv_spec::specs::Visits::atomic_uses), using(crate::proofs::Covered::covering))]
+    #[inline(always)]
     fn of_atomic(instr: Atomic) -> Operands
         ensures based { HasAtomicFields instr → IsBased result.address }
         ensures covered { (s : State) → IsState s → AllByRecursion (IsCovered result s) (atomic_uses instr s) }

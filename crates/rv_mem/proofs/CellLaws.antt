@@ -280,6 +280,23 @@ module _ (m n : Words) (r s : List Word) (step : ℕ) (ts : List Touch) (begun :
       times c (inl l) = time-kept n s c l ∙ ap (λ (v : Word). v.time) (left c l) ∙ ap (time_after step ts c) (sym (time-kept m r c l))
       times c (inr l) = time-beyond n s c l ∙ sym (time-beyond m r c l) ∙ sym (ap (λ o. unwrap_or (option_map (λ (t : Touch). time_of step t.slot) o) (time_at (contents m r) c)) (beyond c l))
 
+pub all-within : (ts : List Touch) → AllByRecursion (λ t. IsTrue (is_cell 2 t.cell)) ts → AllByRecursion (λ t. t.cell < 1073741857) ts
+all-within [] h = tt
+all-within (t ∷ ts) h = (cell-within t.cell h.0, all-within ts h.1)
+
+-- the uses of a step whose pages are made first, in p
+module _ (m p n : Words) (r s : List Word) (step : ℕ) (ts : List Touch) (begun : AreStoredCells m r) (kept : p.image ≡ m.image) (same : (c : ℕ) → c < 2 ^ 30 → stored_word p c ≡ stored_word m c)
+    (image : n.image ≡ p.image) (full : length s ≡ 33) (cells : AllByRecursion (λ t. IsTrue (is_cell 2 t.cell)) ts) (slots : AllByRecursion (λ t. 0 < t.slot) ts)
+    (left : (c : ℕ) → c < 1073741857 → stored_cell n s c ≡ word_after step ts c (stored_cell p r c)) where
+  left-since : (c : ℕ) → c < 1073741857 → stored_cell n s c ≡ word_after step ts c (stored_cell m r c)
+  left-since c within = left c within ∙ ap (word_after step ts c) (same-cells m p r same c)
+
+  pub begun-paged : AreStoredCells n s
+  begun-paged = begun-left m n r s step ts begun (image ∙ kept) full cells slots left-since
+
+  pub is-left-paged : (before : Contents) → contents m r ≡ before → IsLeft before (contents n s) step ts
+  is-left-paged before is = subst (λ (k : Contents). IsLeft k (contents n s) step ts) is (is-left m n r s step ts begun (image ∙ kept) full cells slots left-since)
+
 -- the accesses of touches, from the cells as they are kept once the pages are made
 pub held-before : (m n : Words) (r : List Word) (step : ℕ) → AreStoredCells m r → ((c : ℕ) → c < 2 ^ 30 → stored_word n c ≡ stored_word m c)
     → (earlier ts : List Touch) → AllByRecursion (λ t. t.cell < 1073741857) ts

@@ -30,7 +30,7 @@ last-more ts i c d h = ap (λ (l : List Touch). last_touch l c) (take_more ts i 
 abbrev touched_word : ℕ → Touch → Word
 touched_word step t = record { value = t.new; time = time_of step t.slot }
 
-pub after-more : (step : ℕ) (ts : List Touch) (i c : ℕ) (d : Touch) (w old new : Word) → i < length ts → old ≡ word_after step (take i ts) c w
+after-more : (step : ℕ) (ts : List Touch) (i c : ℕ) (d : Touch) (w old new : Word) → i < length ts → old ≡ word_after step (take i ts) c w
     → (c ≡ (get_or ts i d).cell → new ≡ touched_word step (get_or ts i d)) → (c ≢ (get_or ts i d).cell → new ≡ old) → new ≡ word_after step (take (i + 1) ts) c w
 after-more step ts i c d w old new h before here other = by (equal-or-not c (get_or ts i d).cell)
   where
@@ -43,6 +43,15 @@ after-more step ts i c d w old new h before here other = by (equal-or-not c (get
     by : (c ≡ (get_or ts i d).cell) ⊎ (c ≢ (get_or ts i d).cell) → new ≡ word_after step (take (i + 1) ts) c w
     by (inl e) = here e ∙ more true (eq-eqb (get_or ts i d).cell c (sym e))
     by (inr n) = other n ∙ before ∙ more false (ne_eqb (get_or ts i d).cell c (λ e. n (sym e)))
+
+-- of all cells, where the cell of the touch gets what it leaves
+pub left-more : (step : ℕ) (ts : List Touch) (i : ℕ) (d : Touch) (first before after : ℕ → Word) → i < length ts
+    → ((c : ℕ) → c < 1073741857 → before c ≡ word_after step (take i ts) c (first c))
+    → after (get_or ts i d).cell ≡ touched_word step (get_or ts i d)
+    → ((c : ℕ) → c < 1073741857 → c ≢ (get_or ts i d).cell → after c ≡ before c)
+    → (c : ℕ) → c < 1073741857 → after c ≡ word_after step (take (i + 1) ts) c (first c)
+left-more step ts i d first before after h left set others c within =
+    after-more step ts i c d (first c) (before c) (after c) h (left c within) (λ same. ap after same ∙ set) (others c within)
 
 -- the pages of touched cells stay
 pub still-made : (m n : Words) (ts : List Touch) → ((c : ℕ) → HasPage m c → HasPage n c) → AllByRecursion (λ t. HasPage m t.cell) ts → AllByRecursion (λ t. HasPage n t.cell) ts

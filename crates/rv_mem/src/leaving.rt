@@ -13,6 +13,7 @@ use rv_base::cells::{REGISTER_CELLS, RESERVATION_CELL, SLOTS};
 use rv_base::{Access, NoMemory, Touch, time_of};
 
 /// Makes the pages of the words of memory among the touched cells. No word changes.
+#[inline(always)]
 pub fn reserve_pages(words: &mut Words<'_>, touches: &[Touch]) -> Result<(), NoMemory>
     ensures image { words.new.image ≡ words.old.image }
     ensures made { OnOk result (AllByRecursion (λ t. HasPage words.new t.cell) touches.now) }
@@ -25,6 +26,7 @@ pub fn reserve_pages(words: &mut Words<'_>, touches: &[Touch]) -> Result<(), NoM
 }
 
 /// Makes the page of a cell that is a word of memory, where it is not there. No word changes.
+#[inline(always)]
 pub fn reserve_page(words: &mut Words<'_>, cell: u32) -> Result<(), NoMemory>
     ensures image { words.new.image ≡ words.old.image }
     ensures made { OnOk result (HasPage words.new cell) }
@@ -38,6 +40,7 @@ pub fn reserve_page(words: &mut Words<'_>, cell: u32) -> Result<(), NoMemory>
 }
 
 /// Leaves the uses of a step in cells whose pages were made.
+#[inline(always)]
 pub fn leave_all(words: &mut Words<'_>, registers: &mut [Word; 33], step: u64, touches: &[Touch])
     requires step { step < 2 ^ 32 }
     requires cells { AllByRecursion (λ t. t.cell < RESERVATION_CELL + 1) touches.now }
@@ -47,11 +50,13 @@ pub fn leave_all(words: &mut Words<'_>, registers: &mut [Word; 33], step: u64, t
     ensures left { (c : ℕ) → c < RESERVATION_CELL + 1 → stored_cell words.new registers.new c ≡ word_after step touches.now c (stored_cell words.old registers.old c) }
 {
     for touch in touches {
-        exchange(words, registers, touch.cell, left_by(step, *touch));
+        let touch = *touch;
+        exchange(words, registers, touch.cell, left_by(step, touch));
     }
 }
 
 /// Leaves the uses of a step in cells whose pages were made, and puts their accesses in the place of others.
+#[inline(always)]
 pub fn access_all(
     words: &mut Words<'_>,
     registers: &mut [Word; 33],
@@ -70,7 +75,8 @@ pub fn access_all(
 {
     accesses.clear();
     for touch in touches {
-        let held = exchange(words, registers, touch.cell, left_by(step, *touch));
+        let touch = *touch;
+        let held = exchange(words, registers, touch.cell, left_by(step, touch));
         accesses.push(Access {
             slot: touch.slot,
             cell: touch.cell,
@@ -82,6 +88,7 @@ pub fn access_all(
 }
 
 /// What a touch leaves in its cell.
+#[inline(always)]
 fn left_by(step: u64, touch: Touch) -> Word
     requires { step < 2 ^ 32 }
     ensures { result ≡ record { value = touch.new; time = time_is step touch.slot } }
@@ -93,6 +100,7 @@ fn left_by(step: u64, touch: Touch) -> Word
 }
 
 /// Gives a cell whose page was made a word, and answers what it held.
+#[inline(always)]
 pub fn exchange(words: &mut Words<'_>, registers: &mut [Word; 33], cell: u32, word: Word) -> Word
     requires cell { cell < RESERVATION_CELL + 1 }
     requires made { HasPage words.old cell }

@@ -34,6 +34,7 @@ impl Levels {
     }
 
     /// The number of a page, from 1 on, or 0 for one that was not made.
+    #[inline(never)]
     pub fn number(&self, page: usize) -> u32
         requires { page < 2 ^ 26 }
         ensures { result ≡ level_number self.now page }

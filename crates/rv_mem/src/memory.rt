@@ -68,6 +68,7 @@ impl<'a> Memory<'a> {
     }
 
     /// The value of a cell, and the time of its last use, or 0. A number that is no cell's has 0 and 0.
+    #[inline(always)]
     pub fn get(&self, cell: u32) -> (u32, u64)
         ensures value { result.0 ≡ value_at self.now cell }
         ensures time { result.1 ≡ time_at self.now cell }

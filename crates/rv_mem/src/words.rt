@@ -47,6 +47,7 @@ impl<'a> Words<'a> {
     }
 
     /// Word `w` of memory.
+    #[inline(always)]
     pub fn get(&self, w: u32) -> Word
         requires { w < REGISTER_CELLS }
         ensures { result ≡ stored_word self.now w }
@@ -61,6 +62,7 @@ impl<'a> Words<'a> {
     }
 
     /// Makes the page of word `w` of memory, where it is not there. No word changes.
+    #[inline(always)]
     pub fn reserve(&mut self, w: u32) -> Result<(), NoMemory>
         requires { w < REGISTER_CELLS }
         ensures image { self.new.image ≡ self.old.image }
@@ -76,6 +78,7 @@ impl<'a> Words<'a> {
     }
 
     /// Gives word `w` of memory, whose page was made, a value and a time, and answers what it held.
+    #[inline(always)]
     pub fn exchange(&mut self, w: u32, word: Word) -> Word
         requires in_memory { w < REGISTER_CELLS }
         requires made { 0 < page_number self.old.directory (w / 16) }
@@ -94,6 +97,7 @@ impl<'a> Words<'a> {
     }
 
     /// Makes a page with the words of the image.
+    #[inline(never)]
     fn add_page(&mut self, page: usize) -> Result<(), NoMemory>
         requires in_memory { page < 2 ^ 26 }
         requires absent { page_number self.old.directory page ≡ 0 }

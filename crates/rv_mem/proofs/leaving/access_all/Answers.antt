@@ -5,7 +5,7 @@ use Rattle.rv_base.specs.declared.record.Touch.{Touch}
 use Rattle.rv_mem.specs.declared.word.Word.{Word}
 use Rattle.rv_mem.specs.Accesses.{accesses_of}
 use Rattle.rv_mem.specs.StoredCells.{stored_cell}
-use Rattle.rv_mem.proofs.LeftLaws.{after-more, still-made, accesses-more}
+use Rattle.rv_mem.proofs.LeftLaws.{left-more, still-made, accesses-more}
 use Rattle.rv_mem.proofs.leaving.access_all.Goals as goal
 
 no-touch : Touch
@@ -25,11 +25,9 @@ loop-touch-preserved c =
       image = c.exchange-held.ensures.image ∙ l.image;
       full = c.exchange-held.ensures.full;
       made = still-made c.loop-touch.words c.exchange-held.new.words ts c.exchange-held.ensures.kept l.made;
-      left = λ cell within.
-          after-more c.args.step ts i cell no-touch (stored_cell c.args.words.now c.args.registers.now cell) (stored_cell c.loop-touch.words c.loop-touch.registers cell)
-          (stored_cell c.exchange-held.new.words c.exchange-held.new.registers cell) c.loop-touch-test.true (l.left cell within)
-          (λ same. ap (stored_cell c.exchange-held.new.words c.exchange-held.new.registers) same ∙ c.exchange-held.ensures.set ∙ c.left_by.ensures)
-          (λ apart. c.exchange-held.ensures.others cell within apart);
+      left =
+          left-more c.args.step ts i no-touch (stored_cell c.args.words.now c.args.registers.now) (stored_cell c.loop-touch.words c.loop-touch.registers)
+          (stored_cell c.exchange-held.new.words c.exchange-held.new.registers) c.loop-touch-test.true l.left (c.exchange-held.ensures.set ∙ c.left_by.ensures) c.exchange-held.ensures.others;
       many = c.push.ensures.len ∙ ap (λ n. n + 1) l.many;
       are =
           ap (λ (xs : List Access). xs ++ accesses_of values times c.args.step (take (i + 1) ts) (drop (i + 1) ts)) c.push.ensures.items

@@ -1,7 +1,7 @@
-use Rattle.std.proofs.Common.{ℕ, List, ◌∙◌, ap}
+use Rattle.std.proofs.Common.{ℕ, List, ◌∙◌}
 use Rattle.rv_base.specs.declared.record.Touch.{Touch}
 use Rattle.rv_mem.specs.StoredCells.{stored_cell}
-use Rattle.rv_mem.proofs.LeftLaws.{after-more, still-made}
+use Rattle.rv_mem.proofs.LeftLaws.{left-more, still-made}
 use Rattle.rv_mem.proofs.leaving.leave_all.Goals as goal
 
 no-touch : Touch
@@ -17,9 +17,7 @@ loop-touch-preserved c =
       image = c.exchange.ensures.image ∙ l.image;
       full = c.exchange.ensures.full;
       made = still-made c.loop-touch.words c.exchange.new.words ts c.exchange.ensures.kept l.made;
-      left = λ cell within.
-          after-more c.args.step ts i cell no-touch (stored_cell c.args.words.now c.args.registers.now cell) (stored_cell c.loop-touch.words c.loop-touch.registers cell)
-          (stored_cell c.exchange.new.words c.exchange.new.registers cell) c.loop-touch-test.true (l.left cell within)
-          (λ same. ap (stored_cell c.exchange.new.words c.exchange.new.registers) same ∙ c.exchange.ensures.set ∙ c.left_by.ensures)
-          (λ apart. c.exchange.ensures.others cell within apart);
+      left =
+          left-more c.args.step ts i no-touch (stored_cell c.args.words.now c.args.registers.now) (stored_cell c.loop-touch.words c.loop-touch.registers)
+          (stored_cell c.exchange.new.words c.exchange.new.registers) c.loop-touch-test.true l.left (c.exchange.ensures.set ∙ c.left_by.ensures) c.exchange.ensures.others;
     }

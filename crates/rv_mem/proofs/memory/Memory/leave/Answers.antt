@@ -1,16 +1,6 @@
-use Rattle.std.proofs.Common.{◌≡◌, ◌<◌, ℕ, List, [], ◌∷◌, subst, ◌∙◌, ap, IsTrue}
-use Rattle.std.specs.List.{AllByRecursion}
-use Rattle.rv_base.specs.declared.record.Touch.{Touch}
-use Rattle.rv_spec.specs.Cells.{is_cell}
-use Rattle.rv_mem.specs.Contents.{Contents}
-use Rattle.rv_mem.specs.Left.{IsLeft}
-use Rattle.rv_mem.specs.StoredCells.{stored_cell, contents, word_after}
-use Rattle.rv_mem.proofs.CellLaws.{cell-within, begun-same, same-contents, same-cells, begun-left, is-left, on-err}
+use Rattle.std.proofs.Common.{◌∙◌}
+use Rattle.rv_mem.proofs.CellLaws.{all-within, begun-same, same-contents, begun-paged, is-left-paged, on-err}
 use Rattle.rv_mem.proofs.memory.Memory.leave.Goals as goal
-
-all-within : (ts : List Touch) → AllByRecursion (λ t. IsTrue (is_cell 2 t.cell)) ts → AllByRecursion (λ t. t.cell < 1073741857) ts
-all-within [] h = tt
-all-within (t ∷ ts) h = (cell-within t.cell h.0, all-within ts h.1)
 
 pub invariant_of-self : goal.invariant_of-self
 invariant_of-self c = begun-same c.self.inside.words _ _ c.self.invariant c.reserve_pages.ensures.image c.reserve_pages.ensures.same
@@ -23,18 +13,12 @@ returns-in_err-reserve_pages-clause-err c =
 pub leave_all-requires-clause-cells : goal.leave_all-requires-clause-cells
 leave_all-requires-clause-cells c = all-within c.args.touches.now c.requires.cells
 
-left : (c : goal.After-leave_all) → (k : ℕ) → k < 1073741857 → stored_cell c.leave_all.new.words c.leave_all.new.registers k ≡ word_after c.args.step c.args.touches.now k (stored_cell c.self.inside.words c.self.inside.registers k)
-left c k within =
-    c.leave_all.ensures.left k within
-    ∙ ap (word_after c.args.step c.args.touches.now k) (same-cells c.self.inside.words c.reserve_pages.new.words c.self.inside.registers c.reserve_pages.ensures.same k)
-
 pub invariant_of-self-2 : goal.invariant_of-self-2
 invariant_of-self-2 c =
-    begun-left c.self.inside.words c.leave_all.new.words c.self.inside.registers c.leave_all.new.registers c.args.step c.args.touches.now c.self.invariant
-    (c.leave_all.ensures.image ∙ c.reserve_pages.ensures.image) c.leave_all.ensures.full c.requires.cells c.requires.slots (left c)
+    begun-paged c.self.inside.words c.reserve_pages.new.words c.leave_all.new.words c.self.inside.registers c.leave_all.new.registers c.args.step c.args.touches.now c.self.invariant
+    c.reserve_pages.ensures.image c.reserve_pages.ensures.same c.leave_all.ensures.image c.leave_all.ensures.full c.requires.cells c.requires.slots c.leave_all.ensures.left
 
 pub returns-clause-ok : goal.returns-clause-ok
 returns-clause-ok c =
-    subst (λ (m : Contents). IsLeft m (contents c.leave_all.new.words c.leave_all.new.registers) c.args.step c.args.touches.now) c.self.view_is
-    (is-left c.self.inside.words c.leave_all.new.words c.self.inside.registers c.leave_all.new.registers c.args.step c.args.touches.now c.self.invariant
-    (c.leave_all.ensures.image ∙ c.reserve_pages.ensures.image) c.leave_all.ensures.full c.requires.cells c.requires.slots (left c))
+    is-left-paged c.self.inside.words c.reserve_pages.new.words c.leave_all.new.words c.self.inside.registers c.leave_all.new.registers c.args.step c.args.touches.now c.self.invariant
+    c.reserve_pages.ensures.image c.reserve_pages.ensures.same c.leave_all.ensures.image c.leave_all.ensures.full c.requires.cells c.requires.slots c.leave_all.ensures.left _ c.self.view_is
