@@ -11,6 +11,7 @@ use rv_base::{Cond, Instr, LoadKind, Op, StoreKind};
 
 /// The instruction of RV32I or M that a word spells ("RV32/64G Instruction Set Listings"),
 /// or None where no row of the table fits the word.
+// Inlined, so that the step of a machine needs no copy of the instruction.
 #[tactic(auto)]
 #[inline(always)]
 pub fn decode(word: u32) -> Option<Instr>

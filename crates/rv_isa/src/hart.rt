@@ -156,7 +156,8 @@ impl<'a> Hart<'a> {
     }
 
     /// Looks at the next step, and puts its accesses and where it goes into a look that has none.
-    #[inline(never)]
+    // Inlined with all that it calls: what a step finds then stays in registers.
+    #[inline(always)]
     pub(crate) fn look(&self, look: &mut Look)
         requires begins { array_vec_len look.old.touches.list ≡ 0 }
         requires none { look.old.touches.list.items ≡ [] }
