@@ -11,7 +11,7 @@ use Rattle.rv_spec.specs.Digest.{Lanes}
 use Rattle.rv_spec.specs.Tuples.{Event, tuple_read, tuple_written, tuple_last}
 use Rattle.rv_rules.specs.Checks.{Check, first_broken, refused_by, unless_broken, ◌>>=◌}
 use Rattle.rv_rules.specs.Reading.{read_entries}
-use Rattle.rv_reading.specs.Stream.{State, onwards, reads}
+use Rattle.rv_reading.specs.Stream.{State, onwards}
 use Rattle.rv_reading.specs.Machine.{Phase, Sums, event_sums, tuple_sums, last_cell, first_tuple, step, step_to, told}
 use Rattle.rv_reading.specs.Machine.Phase.{Shards, Entries}
 use Rattle.rv_reading.specs.Machine.Extent.{WholeFile}

@@ -69,10 +69,18 @@ pub fn work_all<J: Run + Send + Sync, P: Maker, G: Gate, R: Threads + Wait + Syn
         return work_one(rt, alloc, maker, line, is_over, gate, worker, pass);
     }
     let rest = line.another::<Cuts>(&mut pass);
-    let (theirs, mine) = join(
+    // The threads are started one by one from this one, so that none waits for another that has begun to work.
+    let (mine, theirs) = join(
         rt,
         || -> Result<Took, NoMemory>
             requires sync { IsSync R.row × IsSync P.row × IsSync G.row }
+            requires pass { IsPassOf line.now pass }
+            requires view { view pass ≡ worker_hand 1 }
+            requires due { (s : StartOf) → J.due s → P.takes maker.now s }
+            ensures pass { IfOk result (λ t. IsPassOf line.entry.now t.pass) }
+            ensures made { IfOk result (HasMade (P.piece maker.entry.now) false 1 0) }
+        { work_one(rt, alloc, maker, line, is_over, gate, worker, pass) },
+        || -> Result<Took, NoMemory>
             requires pass { IsPassOf line.now rest }
             requires view { view rest ≡ worker_hand (view rest).parts }
             requires parts { others ≤ (view rest).parts }
@@ -93,13 +101,6 @@ pub fn work_all<J: Run + Send + Sync, P: Maker, G: Gate, R: Threads + Wait + Syn
                 rest,
             )
         },
-        || -> Result<Took, NoMemory>
-            requires pass { IsPassOf line.now pass }
-            requires view { view pass ≡ worker_hand 1 }
-            requires due { (s : StartOf) → J.due s → P.takes maker.now s }
-            ensures pass { IfOk result (λ t. IsPassOf line.entry.now t.pass) }
-            ensures made { IfOk result (HasMade (P.piece maker.entry.now) false 1 0) }
-        { work_one(rt, alloc, maker, line, is_over, gate, worker, pass) },
     );
     gather(line, mine?, theirs?)
 }

@@ -53,21 +53,22 @@ fn work_all<T: Task, G: Gate, R: Threads + Wait + Sync>(
     let Some(last) = passes.pop() else {
         return Ok(passes);
     };
-    let (others, last) = join(
+    // The threads are started one by one from this one, so that none waits for another that has begun to work.
+    let (last, others) = join(
         rt,
-        || -> Result<Vec<Pass>, NoMemory>
-            requires sync { IsSync R.row × IsSync T.row × IsSync G.row }
-            requires passes { AreFresh board.now passes.items }
-            requires task { task_of board.now ≡ task.now }
-            requires bound { shards_of board.now ≤ T.bound task.now }
-            ensures { IfOk result (λ qs. AreDone passes.items qs.items) }
-        { work_all(rt, alloc, task, board, gate, passes) },
         || -> Result<Pass, NoMemory>
+            requires sync { IsSync R.row × IsSync T.row × IsSync G.row }
             requires pass { IsFresh board.now last }
             requires task { task_of board.now ≡ task.now }
             requires bound { shards_of board.now ≤ T.bound task.now }
             ensures { IfOk result (IsDone last) }
         { work_one(rt, alloc, task, board, gate, last) },
+        || -> Result<Vec<Pass>, NoMemory>
+            requires passes { AreFresh board.now passes.items }
+            requires task { task_of board.now ≡ task.now }
+            requires bound { shards_of board.now ≤ T.bound task.now }
+            ensures { IfOk result (λ qs. AreDone passes.items qs.items) }
+        { work_all(rt, alloc, task, board, gate, passes) },
     );
     let mut done = others?;
     if done.push(last?).is_err() {

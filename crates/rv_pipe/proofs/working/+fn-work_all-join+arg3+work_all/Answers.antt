@@ -4,7 +4,7 @@ use Rattle.crossbeam_queue.specs.Passes.{view}
 use Rattle.rv_pipe.specs.declared.view.Hand.{Hand}
 use Rattle.rv_pipe.specs.Took.{HasMade}
 use Rattle.rv_pipe.proofs.Moves.{forks}
-use Rattle.rv_pipe.proofs.working.+fn-work_all-join+arg2+work_all.Goals as goal
+use Rattle.rv_pipe.proofs.working.+fn-work_all-join+arg3+work_all.Goals as goal
 
 pub another-rest-requires-clause-rule : goal.another-rest-requires-clause-rule
 another-rest-requires-clause-rule g t c = forks _ _ _ _ (omega (arith, c.requires.parts, c.if-others-eq0.false))

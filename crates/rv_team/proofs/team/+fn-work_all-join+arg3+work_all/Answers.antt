@@ -2,7 +2,7 @@ use Rattle.std.proofs.Common.{rules, [], ◌∷◌, ◌++◌, ap, ◌∙◌}
 use Rattle.std.specs.Bool.{if◌then◌else◌}
 use Rattle.rv_team.specs.Work.{AreDone, IsDone}
 use Rattle.rv_team.proofs.Working.{done-more}
-use Rattle.rv_team.proofs.team.+fn-work_all-join+arg2+work_all.Goals as goal
+use Rattle.rv_team.proofs.team.+fn-work_all-join+arg3+work_all.Goals as goal
 
 pub returns : goal.returns
 returns g t c =
