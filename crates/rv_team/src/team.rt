@@ -1,6 +1,6 @@
 //! A task's pieces, made by several workers.
 
-ghost use Rattle.std.specs.Prelude.{◌≡◌, ◌≤◌, IfOk};
+ghost use Rattle.std.specs.Prelude.{[], ◌≡◌, ◌≤◌, ◌∷◌, ◌++◌, IfOk};
 ghost use Rattle.std.specs.Thread.{IsSync};
 ghost use Rattle.rv_book.specs.Journal.{IsWhole};
 ghost use Rattle.rv_claim.specs.Passes.{shards_of, task_of};
@@ -15,8 +15,8 @@ use std::alloc::Global;
 use std::sync::Wait;
 use std::thread::{Threads, join};
 
-/// Makes the first `n` pieces of a task by `workers` workers, numbered from 0, each in a thread of its
-/// own where threads can be had. A worker passes the gate before each piece. If one finds no memory,
+/// Makes the first `n` pieces of a task by `workers` workers, numbered from 0: the first in the
+/// caller's thread, each other in one of its own where threads can be had. A worker passes the gate before each piece. If one finds no memory,
 /// the others make the pieces that are left, and the answer is `NoMemory`.
 pub fn run_team<'t, T: Task, G: Gate, R: Threads + Wait + Sync>(
     rt: &R,
@@ -36,7 +36,7 @@ pub fn run_team<'t, T: Task, G: Gate, R: Threads + Wait + Sync>(
     board.close(alloc, task, passes)
 }
 
-// Works with each pass, each in a thread of its own, and gives the passes back in their order.
+// Works with each pass, the first in this thread and each other in one of its own, and gives the passes back in their order.
 fn work_all<T: Task, G: Gate, R: Threads + Wait + Sync>(
     rt: &R,
     alloc: Global,
@@ -53,6 +53,10 @@ fn work_all<T: Task, G: Gate, R: Threads + Wait + Sync>(
     let Some(last) = passes.pop() else {
         return Ok(passes);
     };
+    if passes.is_empty() {
+        let last = work_one(rt, alloc, task, board, gate, last)?;
+        return put_behind(passes, last);
+    }
     // The threads are started one by one from this one, so that none waits for another that has begun to work.
     let (last, others) = join(
         rt,
@@ -70,11 +74,17 @@ fn work_all<T: Task, G: Gate, R: Threads + Wait + Sync>(
             ensures { IfOk result (λ qs. AreDone passes.items qs.items) }
         { work_all(rt, alloc, task, board, gate, passes) },
     );
-    let mut done = others?;
-    if done.push(last?).is_err() {
+    put_behind(others?, last?)
+}
+
+// Puts a pass behind those before it.
+fn put_behind(mut passes: Vec<Pass>, last: Pass) -> Result<Vec<Pass>, NoMemory>
+    ensures { IfOk result (λ all. all.items ≡ passes.items ++ last ∷ []) }
+{
+    if passes.push(last).is_err() {
         return Err(NoMemory);
     }
-    Ok(done)
+    Ok(passes)
 }
 
 // Draws numbers, and makes and deposits the piece of each, until there are no more.
