@@ -92,6 +92,7 @@ fn all_pieces_by_any_number_of_workers(rt: HostRuntime) -> Result<(), Fail> {
         (3, 4, 3),
         (3, 64, 3),
         (100, 4, 4950),
+        (65_536, 64, 2_147_450_880),
     ] {
         let book = run_team(&rt, rt.alloc(), &NUMBERS, n, workers, &OpenGate)?;
         assert_eq!(rt; book.count(), n);
