@@ -54,6 +54,17 @@ fn a_row_is_read_and_written(rt: HostRuntime) -> Result<(), Fail> {
 }
 
 #[test]
+fn a_row_is_read_in_place_of_a_longer_one(rt: HostRuntime) {
+    let mut row = no_row();
+    assert_eq!(rt; read_row_into(&BYTES, &mut row), RowFound::Row(72));
+    assert_eq!(rt; row.accesses.len(), 3);
+    let mut fewer = BYTES;
+    fewer[8] = 1;
+    assert_eq!(rt; read_row_into(&fewer, &mut row), RowFound::Row(30));
+    assert_eq!(rt; row.accesses.len(), 1);
+}
+
+#[test]
 fn what_is_no_row(rt: HostRuntime) {
     let mut bytes = [0u8; 256];
     for (count, length, is_shape) in [
