@@ -290,6 +290,9 @@ is-parsed file p spells =
     ∙ ap (λ (xs : List ℕ). chain ends_parse xs) (spells.is ∙ sym (append-nil (file_bytes p)))
     ∙ chain-again ends_parse p [] spells.fit
 
+pub one-spelling : (file : List ℕ) (p q : Parts) → Spells p file → Spells q file → q ≡ p
+one-spelling file p q one other = ok-is q p (sym (is-parsed file q other) ∙ is-parsed file p one)
+
 pub form-is-grammar : FormIsGrammar
 form-is-grammar file p fits = (λ e. is-spelled file p fits e, λ s. is-parsed file p s)
 

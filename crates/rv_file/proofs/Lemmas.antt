@@ -20,6 +20,8 @@ pub use Rattle.rv_file.proofs.FileLaws.{ends_parse, after_header, after_shards, 
 pub use Rattle.rv_file.proofs.FileLaws.{parse-is}
 -- what some parts spell is read as these parts
 pub use Rattle.rv_file.proofs.FileLaws.{is-parsed}
+-- a file spells one list of parts
+pub use Rattle.rv_file.proofs.FileLaws.{one-spelling}
 -- the form of a file is good exactly where some parts spell it
 pub use Rattle.rv_file.proofs.FileLaws.{form-is-grammar}
 -- a shard that fits has a head in its ranges and the size that it states, and at the front of bytes its head is read again

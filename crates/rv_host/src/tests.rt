@@ -93,6 +93,7 @@ fn the_files_of_the_system(rt: HostRuntime) -> Result<(), Fail> {
 #[test]
 fn a_longer_file_of_the_system_is_made_empty(rt: HostRuntime) -> Result<(), Fail> {
     let name = "real_shelf_longer_test_file";
+    let other = "real_shelf_other_test_file";
     let mut shelf = RealShelf::new(rt);
     let mut into = [0; 8];
     assert!(rt; shelf.create(name).is_ok());
@@ -100,10 +101,13 @@ fn a_longer_file_of_the_system_is_made_empty(rt: HostRuntime) -> Result<(), Fail
     assert!(rt; shelf.create(name).is_ok());
     assert!(rt; shelf.read_at(name, 0, &mut into) == Ok(0));
     assert!(rt; shelf.append(name, b"67").is_ok());
+    assert!(rt; shelf.append(other, b"!").is_ok());
+    assert!(rt; shelf.append(name, b"8").is_ok());
     let taken = shelf.read_at(name, 0, &mut into);
     fs::remove_file(&rt, name)?;
-    assert!(rt; taken == Ok(2));
-    assert!(rt; into == *b"67\0\0\0\0\0\0");
+    fs::remove_file(&rt, other)?;
+    assert!(rt; taken == Ok(3));
+    assert!(rt; into == *b"678\0\0\0\0\0");
     Ok(())
 }
 

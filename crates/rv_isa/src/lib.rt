@@ -24,4 +24,3 @@ pub use expected::{Expected, expect};
 pub use hart::{Hart, Stepped};
 pub use machine::{Machine, Ran, RunStop, Turn};
 pub use rv_base::{Seen, Touch};
-pub use rv_row::no_row;

@@ -113,7 +113,7 @@ fn concludes(program: &Program<'_>, file: &[u8])
     let _input = program.input();
 }
 
-/// The verdict on a record file, for a program and its input, by `workers` workers, each in a thread of its own where threads can be had: it is the verdict of `rv_judge::judge`. Workers check shards from the places that their heads state, and this thread chains the shards in order, and then judges the table and the end. A worker passes the gate before each shard.
+/// The verdict on a record file, for a program and its input, by `workers` workers, the first in the caller's thread and each other in one of its own where threads can be had: it is the verdict of `rv_judge::judge`. Workers check shards from the places that their heads state, and the caller's thread then chains the shards in order, and judges the table and the end. A worker passes the gate before each shard.
 pub fn panel<L: Lanes + Sync, G: Gate, R: Threads + Wait + Sync>(
     rt: &R,
     alloc: Global,

@@ -14,8 +14,8 @@ use crate::fault::RunFault;
 use crate::start::{Cells, ShardStart};
 use rv_base::limits::SHARDS_LIMIT;
 use rv_base::{Access, End, NoMemory, Place, TableEntry, time_of};
-use rv_isa::{Hart, no_row};
-use rv_row::Row;
+use rv_isa::Hart;
+use rv_row::{Row, no_row};
 use std::alloc::Global;
 
 /// A run after some steps: the hart, the output, how many steps were taken, and the end if the last of them

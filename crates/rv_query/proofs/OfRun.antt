@@ -22,7 +22,7 @@ use Rattle.rv_rules.specs.Laws.{AcceptedIsRecord}
 use Rattle.rv_rules.specs.Chain.{value_before}
 use Rattle.rv_rules.proofs.Lemmas.{left-true}
 use Rattle.rv_isa.proofs.Lemmas.{holds-last-uses}
-use Rattle.rv_file.proofs.Lemmas.{form-is-grammar, ok-is}
+use Rattle.rv_file.proofs.Lemmas.{one-spelling}
 use Rattle.rv_sound.specs.Accepted.{ReadsAccepted}
 use Rattle.rv_sound.proofs.Lemmas.{record-spells}
 use Rattle.rv_query.specs.Accesses.{Numbered, own_time, numbered, accesses_before, last_access}
@@ -129,10 +129,6 @@ accepted : (r : Result Parts Refusal) (steps shards : ℕ) (end : End) → verdi
 accepted (Ok p) steps shards end is = (p, refl)
 accepted (Err d) steps shards end is = absurd cc
 
--- a file spells one list of parts
-one-spelling : (file : List ℕ) (p q : Parts) → AreBytes file → Spells p file → Spells q file → q ≡ p
-one-spelling file p q bytes one other = ok-is q p (sym ((form-is-grammar file q bytes).1 other) ∙ (form-is-grammar file p bytes).1 one)
-
 -- the rows of an accepted file are those of the trace, or it is a collision
 pub rows-of-run : (lanes : Lanes) (elf input file : List ℕ) (p : Parts) → first_fault elf ≡ None → AreBytes elf → AreBytes input
     → ReadsAccepted lanes elf input → ((q : Parts) → AcceptedIsRecord lanes elf input file q) → Accepts lanes elf input file p
@@ -141,13 +137,13 @@ rows-of-run lanes elf input file p faultless bytes input_bytes reads sound a =
     let judged = accepted (judge lanes elf input file) a.steps a.shards a.end a.accepted in
     let q : Parts = judged.0 in
     let spelled = (reads.accepted file q a.bytes judged.1).0 in
-    let one : q ≡ p = one-spelling file p q a.bytes a.spells spelled in
+    let one : q ≡ p = one-spelling file p q a.spells spelled in
     elim (subst (λ (x : Parts). IsRecord lanes x.header.version elf input x.header.size x.header.steps x.header.end file ⊎ IsCollision lanes elf file) one (sound q faultless bytes input_bytes a.bytes judged.1)) [
       | inl r ↦
           let h = p.header in
           let m : Parts = record_parts lanes h.version elf input h.size h.steps h.end in
           let of_record : Spells m file = subst (Spells m) (sym r.is) (record-spells lanes h.version elf input h.size h.steps h.end bytes input_bytes r.has) in
-          let is : p ≡ m = one-spelling file m p a.bytes of_record a.spells in
+          let is : p ≡ m = one-spelling file m p of_record a.spells in
           inl (ap all_rows is ∙ record-rows lanes h.version elf input h.size h.steps h.end (omega (arith, r.has.size_within.0)))
       | inr c ↦ inr c
     ]

@@ -7,9 +7,9 @@ ghost use Rattle.rv_replay.specs.Making.{HasMade};
 
 use rv_base::NoMemory;
 use rv_digest::Lanes;
-use rv_isa::{Hart, no_row};
+use rv_isa::Hart;
 use rv_pairs::Pairing;
-use rv_row::write_row;
+use rv_row::{no_row, write_row};
 
 /// A shard in the making: the hart, the bytes, and how many bytes of output were put.
 #[derive(Drop)]

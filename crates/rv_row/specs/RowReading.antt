@@ -27,6 +27,12 @@ ReadsRow bytes (read.Row r n) = (first_broken (row_form bytes) ≡ None) × (row
 ReadsRow bytes read.Short = first_broken (row_form bytes) ≡ Some SHORT
 ReadsRow bytes read.Shape = first_broken (row_form bytes) ≡ Some ROW_SHAPE
 
+-- The row in its caller's place stays where none is found.
+abbrev pub StaysUnlessFound : RowFound → Row → Row → Type 0
+StaysUnlessFound (found.Row n) before after = Unit {0}
+StaysUnlessFound found.Short before after = after ≡ before
+StaysUnlessFound found.Shape before after = after ≡ before
+
 -- A row that is answered is spelled by the bytes.
 abbrev pub SpellsRow : List ℕ → RowRead → Type 0
 SpellsRow bytes (read.Row r n) = RowFits (row_view r) × (bytes ≡ row_bytes (row_view r) ++ drop n bytes)

@@ -6,7 +6,7 @@ ghost use Rattle.rv_spec.specs.Trace.{Row as Traced};
 ghost use Rattle.rv_spec.specs.Record.{row_bytes, row_length};
 ghost use Rattle.rv_spec.specs.Grammar.{RowFits};
 ghost use Rattle.rv_rules.specs.Reading.{access_of};
-ghost use Rattle.rv_row.specs.RowReading.{ReadsRow, SpellsRow, IsRow, OneRow, found_in};
+ghost use Rattle.rv_row.specs.RowReading.{ReadsRow, SpellsRow, IsRow, OneRow, StaysUnlessFound, found_in};
 
 use crate::rows::{Row, RowFound, RowRead, no_row};
 use arrayvec::ArrayVec;
@@ -45,7 +45,8 @@ fn read_accesses(bytes: &[u8], count: usize, accesses: &mut ArrayVec<Access, SLO
 
 /// Puts the row at the front of the bytes in place of another.
 fn front_row(bytes: &[u8], row: &mut Row) -> RowFound
-    ensures { ReadsRow bytes.now (found_in row.new result) }
+    ensures exact { ReadsRow bytes.now (found_in row.new result) }
+    ensures stays { StaysUnlessFound result row.old row.new }
 {
     if bytes.len() < ROW_BYTES {
         return RowFound::Short;
@@ -65,9 +66,10 @@ fn front_row(bytes: &[u8], row: &mut Row) -> RowFound
 }
 
 /// Reads the row at the front of the bytes, whatever follows it, and leaves it in place of another: pc (4 bytes), next (4), the number of
-/// accesses (1), and 21 bytes for each access. Where there is none, what the caller's row then holds says nothing.
+/// accesses (1), and 21 bytes for each access. Where there is none, the caller's row stays.
 pub fn read_row_into(bytes: &[u8], row: &mut Row) -> RowFound
     ensures exact { ReadsRow bytes.now (found_in row.new result) }
+    ensures stays { StaysUnlessFound result row.old row.new }
     // What is read is spelled so.
     ensures spelled { SpellsRow bytes.now (found_in row.new result) }
     // What is spelled so is read, whatever follows.

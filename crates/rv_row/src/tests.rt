@@ -62,6 +62,8 @@ fn a_row_is_read_in_place_of_a_longer_one(rt: HostRuntime) {
     fewer[8] = 1;
     assert_eq!(rt; read_row_into(&fewer, &mut row), RowFound::Row(30));
     assert_eq!(rt; row.accesses.len(), 1);
+    assert_eq!(rt; read_row_into(&BYTES[..71], &mut row), RowFound::Short);
+    assert_eq!(rt; row.accesses.len(), 1);
 }
 
 #[test]

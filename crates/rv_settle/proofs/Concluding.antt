@@ -13,7 +13,7 @@ use Rattle.rv_spec.specs.Grammar.{Spells}
 use Rattle.rv_spec.specs.Conclusion.{IsRecord, IsCollision}
 use Rattle.rv_rules.specs.Verdict.{judge, verdict_of}
 use Rattle.rv_rules.specs.Laws.{AcceptedIsRecord}
-use Rattle.rv_file.proofs.Lemmas.{form-is-grammar, ok-is}
+use Rattle.rv_file.proofs.Lemmas.{one-spelling}
 use Rattle.rv_sound.specs.Accepted.{ReadsAccepted}
 use Rattle.rv_settle.specs.declared.settling.Settled.{Settled}
 use Rattle.rv_settle.specs.declared.settling.Settled.TheVariants.{Run, Collision, Refused}
@@ -27,10 +27,6 @@ refused (Err d) e is = let same : d ≡ e = cc in ap (λ x. Err x) same
 pub accepted : (r : Result Parts Refusal) (steps shards : ℕ) (end : End) → verdict_of r ≡ Accept steps shards end → (p : Parts) × (r ≡ Ok p) × (p.header.steps ≡ steps)
 accepted (Ok p) steps shards end is = (p, refl, cc)
 accepted (Err d) steps shards end is = absurd cc
-
--- a file spells one list of parts
-one-spelling : (file : List ℕ) (p q : Parts) → AreBytes file → Spells p file → Spells q file → q ≡ p
-one-spelling file p q bytes one other = ok-is q p (sym ((form-is-grammar file q bytes).1 other) ∙ (form-is-grammar file p bytes).1 one)
 
 -- What is known of a program, its input and a file, of which the parts are accepted.
 pub record IsKnown (lanes : Lanes) (elf input file : List ℕ) (steps : ℕ) (p : Parts) : Type 0 where
@@ -46,7 +42,7 @@ pub record IsKnown (lanes : Lanes) (elf input file : List ℕ) (steps : ℕ) (p 
 no-collision : (lanes : Lanes) (elf input file : List ℕ) (steps : ℕ) (p : Parts) → IsKnown lanes elf input file steps p → Same (reads p) (writes (image p.header.version elf) p) → IsCollision lanes elf file → ⊥
 no-collision lanes elf input file steps p k same col =
     let spelled = (k.reads.accepted file p k.file_bytes k.judged).0 in
-    let one : p ≡ col.parts = sym (one-spelling file p col.parts k.file_bytes spelled col.spells) in
+    let one : p ≡ col.parts = sym (one-spelling file p col.parts spelled col.spells) in
     col.differ (subst (λ (q : Parts). Same (reads q) (writes (image q.header.version elf) q)) one same)
 
 record-only : (lanes : Lanes) (elf input file : List ℕ) (steps : ℕ) (p : Parts) → IsKnown lanes elf input file steps p → Same (reads p) (writes (image p.header.version elf) p)

@@ -16,8 +16,9 @@ use std::sync::Wait;
 use std::thread::{Threads, join};
 
 /// Makes the first `n` pieces of a task by `workers` workers, numbered from 0: the first in the
-/// caller's thread, each other in one of its own where threads can be had. A worker passes the gate before each piece. If one finds no memory,
-/// the others make the pieces that are left, and the answer is `NoMemory`.
+/// caller's thread, each other in one of its own where threads can be had. A worker passes the gate
+/// before each piece. If one finds no memory, the others make the pieces that are left, and the
+/// answer is `NoMemory`.
 pub fn run_team<'t, T: Task, G: Gate, R: Threads + Wait + Sync>(
     rt: &R,
     alloc: Global,

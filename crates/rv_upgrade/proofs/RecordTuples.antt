@@ -21,17 +21,13 @@ use Rattle.rv_spec.specs.Conclusion.{HasRecord}
 use Rattle.rv_rules.specs.Verdict.{judge, verdict_of}
 use Rattle.rv_rules.specs.Laws.{RecordIsAccepted}
 use Rattle.rv_rules.proofs.Lemmas.{all-in, all-of, in-append}
-use Rattle.rv_file.proofs.Lemmas.{form-is-grammar, ok-is}
+use Rattle.rv_file.proofs.Lemmas.{one-spelling}
 use Rattle.rv_sound.specs.Accepted.{ReadsAccepted}
 use Rattle.rv_sound.proofs.Lemmas.{record-spells}
 use Rattle.rv_text.proofs.Lemmas.{rows_in, sized}
 use Rattle.rv_upgrade.proofs.BothVersions.{rows-most}
 use Rattle.rv_upgrade.proofs.CountingLanes.{counting, counted-same}
 use Rattle.rv_upgrade.proofs.SpelledBytes.{spelled-bytes}
-
--- a file spells one list of parts
-pub one-spelling : (file : List ℕ) (p q : Parts) → AreBytes file → Spells p file → Spells q file → q ≡ p
-one-spelling file p q bytes one other = ok-is q p (sym ((form-is-grammar file q bytes).1 other) ∙ (form-is-grammar file p bytes).1 one)
 
 -- ---- how many tuples a file has
 
@@ -87,7 +83,7 @@ module _ (version : ℕ) (elf input : List ℕ) (size n : ℕ) (e : End) (readin
   judged lanes =
       let found = accepted (judge lanes elf input (file lanes)) n (div_ceil n size) e (complete lanes bytes input_bytes has) in
       let read = ((reading lanes).accepted (file lanes) found.0 (file-bytes lanes) found.1).0 in
-      found.1 ∙ ap (λ p. Ok p) (one-spelling (file lanes) (parts lanes) found.0 (file-bytes lanes) (spells lanes) read)
+      found.1 ∙ ap (λ p. Ok p) (one-spelling (file lanes) (parts lanes) found.0 (spells lanes) read)
 
   one-digest : (lanes : Lanes) → digest lanes (reads (parts lanes)) ≡ digest lanes (writes (image version elf) (parts lanes))
   one-digest lanes = ((reading lanes).accepted (file lanes) (parts lanes) (file-bytes lanes) (judged lanes)).1.balance

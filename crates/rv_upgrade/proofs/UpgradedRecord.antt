@@ -10,13 +10,13 @@ use Rattle.rv_spec.specs.Grammar.{Spells}
 use Rattle.rv_spec.specs.Conclusion.{IsRecord, IsCollision}
 use Rattle.rv_rules.specs.Verdict.{judge}
 use Rattle.rv_rules.specs.Laws.{AcceptedIsRecord, RecordIsAccepted}
+use Rattle.rv_file.proofs.Lemmas.{one-spelling}
 use Rattle.rv_sound.specs.Accepted.{ReadsAccepted}
 use Rattle.rv_upgrade.specs.Upgrade.{blocked, upgraded, upgraded_parts}
 use Rattle.rv_upgrade.specs.Laws.{IsAcceptedToo}
 use Rattle.rv_upgrade.proofs.SpelledBytes.{spelled-bytes}
 use Rattle.rv_upgrade.proofs.UpgradedParts.{version-1, same-read, same-written, spells-too, accepted-too, is-accepted-too}
 use Rattle.rv_upgrade.proofs.RecordTuples as of_run
-use Rattle.rv_upgrade.proofs.RecordTuples.{one-spelling}
 
 -- what parts spell are bytes
 spelling-bytes : (p : Parts) (file : List ℕ) → Spells p file → AreBytes file
@@ -25,7 +25,7 @@ spelling-bytes p file s = subst (λ (xs : List ℕ). AreBytes xs) (sym s.is) (sp
 -- the two lists of the parts that a collision spells differ
 lists-differ : (lanes : Lanes) (elf file : List ℕ) (p : Parts) → Spells p file → IsCollision lanes elf file → Same (reads p) (writes (image p.header.version elf) p) → ⊥
 lists-differ lanes elf file p s c same =
-    let one : p ≡ c.parts = one-spelling file c.parts p (spelling-bytes p file s) c.spells s in
+    let one : p ≡ c.parts = one-spelling file c.parts p c.spells s in
     c.differ (subst (λ (q : Parts). Same (reads q) (writes (image q.header.version elf) q)) one same)
 
 -- both versions have the same two lists
@@ -69,7 +69,7 @@ module _ (lanes : Lanes) (elf input : List ℕ) (sound : (file : List ℕ) (p : 
       let m : Parts = record_parts lanes 1 elf input size n e in
       let f : List ℕ = record_file lanes 1 elf input size n e in
       let of_record : Spells m f = of_run.spells 1 elf input size n e reading complete bytes input_bytes r.has lanes in
-      let one : m ≡ p = one-spelling file p m (spelling-bytes p file s) s (subst (Spells m) (sym r.is) of_record) in
+      let one : m ≡ p = one-spelling file p m s (subst (Spells m) (sym r.is) of_record) in
       let free_too : blocked m ≡ None = ap blocked one ∙ free in
       let same : Same (reads m) (writes (image 1 elf) m) = of_run.record-same 1 elf input size n e reading complete bytes input_bytes r.has lanes in
       let new : Spells (upgraded_parts m) (upgraded f) = spells-too lanes elf input m free_too f of_record in
