@@ -7,6 +7,7 @@ mod tests;
 pub use rv_commands::{needs_team, tool, tool_one};
 use rv_host::{OpenGate, RealShelf, RealSink};
 use rv_plan::print_no_memory;
+use std::fs::File;
 use std::process::ExitCode;
 use std::{env, io};
 
@@ -22,6 +23,13 @@ enum Wordless {
 }
 
 fn main(rt: HostRuntime) -> ExitCode {
+    // The root folder, which can't be written, takes the place of each standard stream that is
+    // closed: else a file that stays open would, and the line would go into it.
+    let _streams = [
+        File::open(&rt, "/").ok(),
+        File::open(&rt, "/").ok(),
+        File::open(&rt, "/").ok(),
+    ];
     let mut shelf = RealShelf::new(rt);
     let mut out = RealSink::new(rt);
     let words = match command_words(&rt) {
